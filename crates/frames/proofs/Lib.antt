@@ -1,0 +1,4 @@
+pub mod Addressing
+pub mod Layouts
+pub mod Readings
+pub mod Spelling

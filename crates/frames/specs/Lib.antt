@@ -1,0 +1,4 @@
+pub mod Faults
+pub mod Layout
+pub mod Reading
+pub mod Sorts

@@ -1,0 +1,4 @@
+pub mod EntryBytes
+pub mod Masks
+pub mod Numbers
+pub mod Proper

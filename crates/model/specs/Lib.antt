@@ -1,0 +1,4 @@
+pub mod Entries
+pub mod Sets
+pub mod Faults
+pub mod Bytes

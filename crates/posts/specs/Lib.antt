@@ -1,0 +1,4 @@
+pub mod Meaning
+pub mod Parcels
+pub mod Places
+pub mod Lines

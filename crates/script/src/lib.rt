@@ -1,0 +1,4 @@
+// The script language of `slots`: lines of bytes, their words, and the commands they spell.
+pub mod command;
+pub mod lines;
+pub mod words;

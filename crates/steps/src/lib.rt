@@ -1,0 +1,3 @@
+// What the steps of TPaxos make of entries, and what a row shows.
+pub mod entry;
+pub mod row;
