@@ -1,4 +1,5 @@
-pub mod Addressing
+pub mod Addresses
 pub mod Layouts
+pub mod ReadBack
 pub mod Readings
 pub mod Spelling

@@ -2,27 +2,26 @@
 use mathlib.Core.Path.{_≡_, refl, sym, ap, subst, _∙_}
 use mathlib.Core.List.{List, [], _∷_, _++_, append-assoc}
 use mathlib.Core.Bool.{Bool, true, false, _||_}
-use mathlib.Core.Logic.{_⊎_, inl, inr}
-use Prim.Native.Nat.{ℕ, zero, suc, _+_, _-_, _<_, _≤_}
+use mathlib.Core.Logic.{inl, inr}
+use Prim.Native.Nat.{ℕ, zero, suc, _+_, _-_, _<_}
 use native.Mathlib.Numerals.{add-one}
 use native.Mathlib.Omega.{arith}
 use lib.Dec.{eqb}
 use lib.IntN.{pos}
 use lib.Signed.{leZ, ltZ}
-use lib.ListN.{set, replicate}
+use lib.ListN.{getD, set, take, replicate}
 use Rattle.std.specs.declared.option.Option.{Option}
 use Rattle.std.specs.declared.option.Option.the-variants.{Some, None}
-use Rattle.std.specs.declared.result.Result.{Result}
 use Rattle.std.specs.declared.result.Result.the-variants.{Ok, Err}
-use Rattle.std.proofs.shelf.Counted.{length-map-counting, map-counting-more}
-use Rattle.std.proofs.shelf.Lists.{set-at}
+use Rattle.std.proofs.shelf.Counted.{length-map-counting, getD-map-counting, map-counting-more}
+use Rattle.std.proofs.shelf.Lists.{getD-append-left, set-at, take-at}
 use Rattle.std.proofs.shelf.Tests.{cases-lt, eqb-true, ltb-true}
 use Rattle.kinds.specs.Meaning.{KindMeaning}
 use Rattle.model.specs.declared.entries.Entry.{Entry}
 use Rattle.model.specs.Entries.{none}
 use Rattle.frames.specs.declared.fault.ReaderFault.{ReaderFault}
 use Rattle.frames.specs.Layout.{Heading, entry-in, entries-in}
-use Rattle.frames.specs.Reading.{demand, or-else, unless, entry-fault, first-of, address-fault, ForUs}
+use Rattle.frames.specs.Reading.{demand, or-else, unless, entry-fault, first-of, row-in, address-fault, ForUs}
 
 pub first-of-more : (check : ℕ → Option ReaderFault) (i : ℕ) → first-of check i ≡ None → check i ≡ None → first-of check (i + 1) ≡ None
 first-of-more check i before here = rw (add-one i, before, here)
@@ -95,3 +94,12 @@ row-more bytes es i e in-row was is =
     let left : 7 - i ≡ suc (7 - (i + 1)) = omega arith in
     let apart : es ≡ front ++ none ∷ rest = was ∙ ap (λ k. front ++ replicate k none) left in
     ap (λ l. set l i e) apart ∙ set-at front none rest e i (length-map-counting (entry-in bytes) 0 i) ∙ (λ j. front ++ is j ∷ rest) ∙ sym (append-assoc front (entry-in bytes i ∷ []) rest) ∙ ap (λ l. l ++ rest) (sym (map-counting-more (entry-in bytes) 0 i i (omega arith)))
+
+-- the entries of a row that was read, without its idle slots
+pub row-front : (bytes : List ℕ) (n : ℕ) → take n (row-in bytes n .entries) ≡ entries-in bytes n
+row-front bytes n = take-at (entries-in bytes n) (replicate (7 - n) none) n (length-map-counting (entry-in bytes) 0 n)
+
+-- an entry of a row that was read
+pub row-at : (bytes : List ℕ) (n i : ℕ) (d : Entry) → i < n → getD (row-in bytes n .entries) i d ≡ entry-in bytes i
+row-at bytes n i d in-row =
+    getD-append-left (entries-in bytes n) (replicate (7 - n) none) d i (omega (arith, length-map-counting (entry-in bytes) 0 n)) ∙ getD-map-counting (entry-in bytes) 0 n i i d in-row (omega arith)

@@ -1,13 +1,12 @@
 -- What bytes without a fault spell, and that only they spell it. Assumes nothing.
 use mathlib.Core.Path.{_≡_, refl, sym, ap, subst, _∙_}
-use mathlib.Core.Bool.{Bool, true, false, _&&_, _||_}
-use mathlib.Core.List.{List, [], _∷_, _++_, append-nil}
+use mathlib.Core.Bool.{Bool, true, _||_}
+use mathlib.Core.List.{List, [], _∷_, _++_}
 use Prim.Native.Nat.{ℕ, zero, suc, _+_, _-_, _*_, _/_, _%_, _^_, _<_, _≤_}
 use native.Mathlib.Numerals.{add-one}
 use native.Mathlib.Omega.{arith}
-use lib.Dec.{eqb, leb, ltb}
-use lib.IntN.{ℤ, pos, negsuc}
-use lib.ListN.{length, take, drop, getD, replicate, length-drop}
+use lib.IntN.{pos, negsuc}
+use lib.ListN.{length, take, drop, replicate, length-drop}
 use lib.Seq.{take-add}
 use lib.Signed.{leZ, ltZ}
 use Rattle.std.specs.Options.{isSome, valueOr}
@@ -15,10 +14,11 @@ use Rattle.std.specs.declared.option.Option.the-variants.{None}
 use Rattle.std.specs.declared.result.Result.the-variants.{Ok}
 use Rattle.std.specs.shelf.Digits.{number, Under}
 use Rattle.std.specs.shelf.Lists.{All, joined}
+use Rattle.std.proofs.shelf.Bits.{div-add-mod'}
 use Rattle.std.proofs.shelf.Counted.{length-map-counting, getD-map-counting, map-counting-more}
 use Rattle.std.proofs.shelf.Digits.{number-lt}
 use Rattle.std.proofs.shelf.Elements.{all-take, all-drop, all-append, all-from-getD}
-use Rattle.std.proofs.shelf.Lists.{length-take-le, length-replicate, getD-replicate, joined-more, drop-drop, take-append-drop, take-all, take-at}
+use Rattle.std.proofs.shelf.Lists.{length-take-le, length-replicate, getD-replicate, joined-more, drop-drop, take-append-drop, take-all}
 use Rattle.std.proofs.shelf.Tests.{and-from, lt-ltb, le-leb, eqb-true, eq-eqb}
 use Rattle.std.proofs.shelf.Ways.{tells}
 use Rattle.kinds.specs.Meaning.{KindMeaning}
@@ -29,12 +29,11 @@ use Rattle.model.specs.declared.rows.Row.{Row}
 use Rattle.model.proofs.EntryBytes.{written-spelled}
 use Rattle.model.proofs.Proper.{clean-same}
 use Rattle.frames.specs.declared.header.Header.{Header}
-use Rattle.frames.specs.declared.reader.Frame.{Frame}
 use Rattle.frames.specs.declared.sort.Sort.the-variants.{Ack}
-use Rattle.frames.specs.Layout.{heading-of, heading-in, four-bytes, entry-bytes, laid-out, entry-in, entries-in}
-use Rattle.frames.specs.Reading.{or-else, unless, header-fault, HeaderRead, entry-fault, first-of, row-in, code-counts, fault-at, address-fault, valued, first-fault, ForUs, Spells}
+use Rattle.frames.specs.Layout.{edition, heading-of, heading-in, four-bytes, entry-bytes, laid-out, entry-in, entries-in}
+use Rattle.frames.specs.Reading.{or-else, unless, header-fault, HeaderRead, entry-fault, first-of, row-in, code-counts, fault-at, address-fault, valued, first-fault, Spells}
 use Rattle.frames.specs.Sorts.{sort-number, sort-of}
-use Rattle.frames.proofs.Readings.{passes, right-entry, right-address, first-of-at, unless-ok}
+use Rattle.frames.proofs.Readings.{passes, right-entry, right-address, first-of-at, unless-ok, row-front}
 
 below : (k : ℕ) (bs : List ℕ) → length bs ≡ k → Under 256 bs → number 256 bs < 256 ^ k
 below k bs long small = subst (λ j. number 256 bs < 256 ^ j) long (number-lt 256 bs small)
@@ -49,7 +48,7 @@ to-top zero fits = refl
 to-top (suc b) fits = le-leb b 16777214 (omega arith)
 
 -- twelve bytes without a fault spell an entry
-pub spelled-proper : (bs : List ℕ) (counts : Bool) (place : ℕ) → length bs ≡ 12 → Under 256 bs → entry-fault counts (spelled bs) place ≡ None → is-entry (spelled bs) ≡ true
+spelled-proper : (bs : List ℕ) (counts : Bool) (place : ℕ) → length bs ≡ 12 → Under 256 bs → entry-fault counts (spelled bs) place ≡ None → is-entry (spelled bs) ≡ true
 unfolding spelled
 spelled-proper bs counts place long small right =
     let Small = λ (d : ℕ). d < 256 in
@@ -62,19 +61,19 @@ spelled-proper bs counts place long small right =
 number-of-sort : (k : ℕ) → isSome (sort-of k) ≡ true → sort-number (valueOr (sort-of k) Ack) ≡ k
 number-of-sort k is = grind (arith, tells)
 
-pub four-spelled : (bytes : List ℕ) → header-fault bytes ≡ None → four-bytes (heading-in bytes) ≡ take 4 bytes
-four-spelled [] right = cc
-four-spelled (a ∷ []) right = cc
-four-spelled (a ∷ b ∷ []) right = cc
-four-spelled (a ∷ b ∷ c ∷ []) right = cc
-four-spelled (a ∷ b ∷ c ∷ d ∷ rest) right =
-    let sorted = passes _ _ _ (passes _ _ _ right .1) in
+first-byte : (a s : ℕ) → s ≡ a / 64 → a / 16 % 4 ≡ edition → s * 64 + edition * 16 + a % 16 ≡ a
+first-byte a s sort edited = omega arith
+
+four-spelled : (bytes : List ℕ) → header-fault bytes ≡ None → four-bytes (heading-in bytes) ≡ take 4 bytes
+four-spelled [] clear = cc
+four-spelled (a ∷ []) clear = cc
+four-spelled (a ∷ b ∷ []) clear = cc
+four-spelled (a ∷ b ∷ c ∷ []) clear = cc
+four-spelled (a ∷ b ∷ c ∷ d ∷ rest) clear =
+    let sorted = passes _ _ _ (passes _ _ _ clear .1) in
     let edited = passes _ _ _ (sorted .1) in
-    let s : sort-number (valueOr (sort-of (a / 64)) Ack) ≡ a / 64 = number-of-sort (a / 64) (sorted .0) in
-    let e : a / 16 % 4 ≡ 1 = eqb-true (a / 16 % 4) 1 (edited .0) in
-    let first : sort-number (valueOr (sort-of (a / 64)) Ack) * 64 + 16 + a % 16 ≡ a = omega arith in
-    let second : b / 16 * 16 + b % 16 ≡ b = omega arith in
-    λ i. first i ∷ second i ∷ c ∷ d ∷ []
+    let first = first-byte a _ (number-of-sort (a / 64) (sorted .0)) (eqb-true _ _ (edited .0)) in
+    λ i. first i ∷ div-add-mod' b 16 i ∷ c ∷ d ∷ []
 
 module _ (bytes : List ℕ) (n : ℕ) (long : length bytes ≡ 4 + 12 * n) (small : Under 256 bytes) where
   -- the twelve bytes of an entry
@@ -128,7 +127,7 @@ module _ {V : Type 0} (m : KindMeaning V) where
       let at : (i : ℕ) → i < n → fault-at m bytes (header .kind) i ≡ None = λ i lt. first-of-at (fault-at m bytes (header .kind)) n (subst (λ k. first-of (fault-at m bytes (header .kind)) k ≡ None) same clear) i lt in
       let proper : (i : ℕ) → i < n → is-entry (entry-in bytes i) ≡ true = λ i lt. spelled-proper _ _ _ (part-long bytes n long small i lt) (part-small bytes n long small i) (at i lt) in
       let counts : (i : ℕ) → i < n → valued m (entry-in bytes i) ≡ true = λ i lt. counts-ours (header .kind) (entry-in bytes i) (ours .same-kind) (right-entry _ (entry-in bytes i) _ (at i lt) .counted) in
-      let front : take n (row .entries) ≡ entries-in bytes n = ap (λ (r : Row). take n (r .entries)) is ∙ take-at (entries-in bytes n) (replicate (7 - n) none) n (length-map-counting (entry-in bytes) 0 n) in
+      let front : take n (row .entries) ≡ entries-in bytes n = ap (λ (r : Row). take n (r .entries)) is ∙ row-front bytes n in
       let rest : first-fault m bytes n cells q ≡ or-else (first-of (fault-at m bytes (header .kind)) (header .n)) (address-fault m (heading-of header) n cells q) = (λ i. or-else (head .0 i) (or-else (first-of (fault-at m bytes (sym heading i .kind)) (sym heading i .n)) (address-fault m (sym heading i) n cells q))) in
       record {
         faultless = rest ∙ ap (λ o. or-else o (address-fault m (heading-of header) n cells q)) clear ∙ address;

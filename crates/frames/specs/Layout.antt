@@ -1,6 +1,8 @@
 -- The bytes of a frame: four of the header, then twelve for each entry, fields packed highest bit first. Assumes nothing.
+use mathlib.Core.Bool.{true}
+use mathlib.Core.Path.{_≡_}
 use mathlib.Core.List.{List, [], _∷_, _++_, map}
-use Prim.Native.Nat.{ℕ, _+_, _*_, _/_, _%_}
+use Prim.Native.Nat.{ℕ, _+_, _*_, _/_, _%_, _≤_, _<_}
 use lib.ListN.{getD, take, drop}
 use Rattle.std.specs.Iters.{counting}
 use Rattle.std.specs.Options.{valueOr}
@@ -11,7 +13,7 @@ use Rattle.model.specs.Entries.{clean}
 use Rattle.frames.specs.declared.header.Header.{Header}
 use Rattle.frames.specs.declared.sort.Sort.{Sort}
 use Rattle.frames.specs.declared.sort.Sort.the-variants.{Ack}
-use Rattle.frames.specs.Sorts.{sort-number, sort-of}
+use Rattle.frames.specs.Sorts.{sort-number, sort-of, well-addressed}
 
 -- the edition of this layout
 abbrev pub edition : ℕ
@@ -28,6 +30,15 @@ pub record Heading : Type 0 where
 
 abbrev pub heading-of : Header → Heading
 heading-of h = record { sort = h .sort; n = h .n; sender = h .sender; kind = h .kind; to = h .to; cell = h .cell }
+
+-- what holds of every header
+pub record Sound (h : Heading) : Type 0 where
+  pub some : 2 ≤ h .n
+  pub few : h .n ≤ 7
+  pub sent : h .sender < h .n
+  pub known : h .kind < 16
+  pub named : h .cell < 256
+  pub addressed : well-addressed (h .sort) (h .n) (h .sender) (h .to) ≡ true
 
 -- sort in 2 bits, edition in 2, n in 4; sender in 4, kind in 4; addressees in 8; cell in 8
 abbrev pub four-bytes : Heading → List ℕ

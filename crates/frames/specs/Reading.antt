@@ -1,6 +1,6 @@
 -- What reading answers: the first fault of the bytes in the order of the checks, or the frame that they spell. Assumes nothing.
 use mathlib.Core.Bool.{Bool, true, not, cond, _&&_, _||_}
-use mathlib.Core.List.{List, _++_}
+use mathlib.Core.List.{List, _++_, map}
 use mathlib.Core.Path.{_≡_}
 use Prim.Native.Nat.{ℕ, zero, suc, _+_, _-_, _*_, _/_, _%_, _<_}
 use lib.Dec.{eqb, ltb, leb}
@@ -8,6 +8,7 @@ use lib.IntN.{pos}
 use lib.ListN.{length, getD, take, replicate}
 use lib.Signed.{ltZ, leZ}
 use Rattle.std.specs.Options.{isSome}
+use Rattle.std.specs.Results.{Cases}
 use Rattle.std.specs.declared.option.Option.{Option}
 use Rattle.std.specs.declared.option.Option.the-variants.{Some, None}
 use Rattle.std.specs.declared.result.Result.{Result}
@@ -16,13 +17,13 @@ use Rattle.std.specs.shelf.Lists.{All}
 use Rattle.kinds.specs.Meaning.{KindMeaning}
 use Rattle.model.specs.declared.entries.Entry.{Entry}
 use Rattle.model.specs.declared.rows.Row.{Row}
-use Rattle.model.specs.Entries.{none, is-entry}
+use Rattle.model.specs.Entries.{none, is-entry, clean}
 use Rattle.model.specs.Sets.{member}
 use Rattle.frames.specs.declared.fault.ReaderFault.{ReaderFault}
 use Rattle.frames.specs.declared.header.Header.{Header}
 use Rattle.frames.specs.declared.reader.Frame.{Frame}
 use Rattle.frames.specs.Faults.{ill-formed, not-for-us}
-use Rattle.frames.specs.Layout.{Heading, edition, heading-of, heading-in, laid-out, entry-in, entries-in}
+use Rattle.frames.specs.Layout.{Heading, Sound, edition, heading-of, heading-in, laid-out, entry-in, entries-in}
 use Rattle.frames.specs.Sorts.{sort-of, well-addressed}
 
 -- a check: the fault where it does not pass
@@ -115,3 +116,18 @@ module _ {V : Type 0} (m : KindMeaning V) where
   abbrev pub Reads : List ℕ → ℕ → ℕ → ℕ → Result Frame ReaderFault → Type 0
   Reads bytes n cells q (Err fault) = first-fault bytes n cells q ≡ Some fault
   Reads bytes n cells q (Ok frame) = Spells bytes n cells q frame
+
+  -- the entries of n participants, each with a value where it votes; what is no entry counts as none
+  pub record Complete (n : ℕ) (es : List Entry) : Type 0 where
+    pub long : length es ≡ n
+    pub counts : All (λ e. valued (clean e) ≡ true) es
+
+  -- what was laid out for participant q gives back its header and its entries
+  abbrev pub ReadsBack : List ℕ → ℕ → ℕ → ℕ → Result Frame ReaderFault → Type 0
+  ReadsBack bytes n cells q r =
+      (h : Heading) (es : List Entry) → Sound h → ForUs h n cells q → Complete n es → bytes ≡ laid-out h es →
+      Cases r (λ frame. (heading-of (frame .header) ≡ h) × (take n (frame .row .entries) ≡ map clean es)) (λ _. ⊥)
+
+  pub record Answered (bytes : List ℕ) (n cells q : ℕ) (r : Result Frame ReaderFault) : Type 0 where
+    pub reads : Reads bytes n cells q r
+    pub back : ReadsBack bytes n cells q r

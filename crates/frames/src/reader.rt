@@ -1,16 +1,15 @@
 // Reading a frame.
-ghost use mathlib.Core.Bool.{true, not};
 ghost use mathlib.Core.Path.{_≡_};
-ghost use Prim.Native.Nat.{_+_, _*_, _^_, _≤_, _<_};
-ghost use lib.ListN.{length, take, drop};
+ghost use Prim.Native.Nat.{_+_, _*_, _≤_, _<_};
+ghost use lib.ListN.{length};
 ghost use Rattle.frames.specs.Faults.{ill-formed, not-for-us};
 ghost use Rattle.frames.specs.Layout.{heading-of, entry-in};
-ghost use Rattle.frames.specs.Reading.{demand, unless, HeaderRead, entry-fault, first-of, row-in, code-counts, fault-at, address-fault, Reads};
-ghost use Rattle.model.specs.Bytes.{spelled};
+ghost use Rattle.frames.specs.Reading.{demand, unless, HeaderRead, entry-fault, first-of, row-in, code-counts, fault-at, address-fault, Answered};
 use crate::fault::ReaderFault;
 use crate::header::Header;
 use crate::sort::Sort;
 use crate::writer::EDITION;
+use crate::writer::place_of;
 use kinds::kind::Kind;
 use model::entries::Entry;
 use model::rows::Row;
@@ -37,7 +36,13 @@ fn not_for_us(place: usize) -> ReaderFault
 
 // Reads any bytes as a frame for participant q of a register of n participants and so many cells.
 pub fn read<K: Kind>(bytes: &[u8], n: usize, cells: usize, q: usize) -> Result<Frame, ReaderFault>
-    ensures { λ r. ⌜ Reads (K·Kind .means) (now (bytes .entry)) n cells q r ⌝ }
+    ensures { λ r. ⌜ Answered (K·Kind .means) (now (bytes .entry)) n cells q r ⌝ }
+{
+    read_frame::<K>(bytes, n, cells, q)
+}
+
+fn read_frame<K: Kind>(bytes: &[u8], n: usize, cells: usize, q: usize) -> Result<Frame, ReaderFault>
+    ensures { λ r. ⌜ Answered (K·Kind .means) (now (bytes .entry)) n cells q r ⌝ }
 {
     let header = read_header(bytes)?;
     let row = read_row::<K>(bytes, &header)?;
@@ -61,7 +66,7 @@ fn read_header(bytes: &[u8]) -> Result<Header, ReaderFault>
     check(bytes[0] / 16 % 4 == EDITION, ill_formed(0))?;
     let n = (bytes[0] % 16) as usize;
     check(n >= 2 && n <= 7, ill_formed(0))?;
-    check(len == 4 + 12 * n, ill_formed(len))?;
+    check(len == place_of(n), ill_formed(len))?;
     let sender = (bytes[1] / 16) as usize;
     check(sender < n, ill_formed(1))?;
     let to = bytes[2];
@@ -93,7 +98,7 @@ fn read_entry<K: Kind>(bytes: &[u8], i: usize, kind: u8) -> Result<Entry, Reader
     requires { ⌜ i < 7 ⌝ ∗ ⌜ 16 + 12 * i ≤ length (now bytes) ⌝ }
     ensures { λ r. ⌜ r ≡ unless (fault-at (K·Kind .means) (now (bytes .entry)) kind i) (entry-in (now (bytes .entry)) i) ⌝ }
 {
-    let place = 4 + 12 * i;
+    let place = place_of(i);
     let e = Entry::read(bytes, place).unwrap();
     check_entry(&e, counts::<K>(kind, e.code), place)?;
     Ok(e)

@@ -1,8 +1,5 @@
 // What a frame is sent for.
-ghost use mathlib.Core.Bool.{true};
 ghost use mathlib.Core.Path.{_≡_};
-ghost use Prim.Native.Nat.{_<_, _≤_};
-ghost use Rattle.std.specs.declared.option.Option.the-variants.{Some};
 ghost use Rattle.frames.specs.Sorts.{sort-number, sort-of, well-addressed};
 use model::sets::all_but;
 use model::sets::count;

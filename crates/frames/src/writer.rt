@@ -1,7 +1,7 @@
 // Writing a frame.
 ghost use mathlib.Core.List.{_++_};
 ghost use mathlib.Core.Path.{_≡_};
-ghost use Prim.Native.Nat.{_+_, _*_, _≤_, _<_};
+ghost use Prim.Native.Nat.{_+_, _*_, _≤_};
 ghost use lib.ListN.{length, take, drop};
 ghost use lib.Seq.{paste};
 ghost use Rattle.frames.specs.Layout.{heading-of, laid-out, four-bytes, entry-bytes};
@@ -15,13 +15,22 @@ pub const EDITION: u8 = 1;
 // Writes the header and the first n entries of the row to the front of the buffer, and gives the frame's length. The rest of the buffer stands.
 pub fn write(header: &Header, row: &Row, out: &mut [u8; 88]) -> usize
     ensures length { λ r. ⌜ r ≡ 4 + 12 * now (header .entry) .n ⌝ }
+    ensures whole { λ r. ⌜ r ≡ length (laid-out (heading-of (now (header .entry))) (take (now (header .entry) .n) (now (row .entry) .entries))) ⌝ }
     ensures buffer { λ r. ⌜ now (out .exit) ≡ laid-out (heading-of (now (header .entry))) (take (now (header .entry) .n) (now (row .entry) .entries)) ++ drop r (now (out .entry)) ⌝ }
 {
     write_header(header, out);
     for i in 0..header.n {
-        write_entry(&row.entries[i], 4 + 12 * i, out);
+        write_entry(&row.entries[i], place_of(i), out);
     }
-    4 + 12 * header.n
+    place_of(header.n)
+}
+
+// Where entry i begins, past four bytes and the entries before it. A frame of n entries ends where entry n would begin.
+pub(crate) fn place_of(i: usize) -> usize
+    requires { ⌜ i ≤ 7 ⌝ }
+    ensures { λ r. ⌜ r ≡ 4 + 12 * i ⌝ }
+{
+    12 * i + 4
 }
 
 fn write_header(header: &Header, out: &mut [u8; 88])

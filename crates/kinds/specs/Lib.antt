@@ -1,2 +1,5 @@
 pub mod Meaning
+pub mod Axes
 pub mod Glyphs
+pub mod Places
+pub mod Examples

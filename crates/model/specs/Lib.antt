@@ -1,4 +1,5 @@
-pub mod Entries
-pub mod Sets
-pub mod Faults
 pub mod Bytes
+pub mod Entries
+pub mod Faults
+pub mod Makers
+pub mod Sets

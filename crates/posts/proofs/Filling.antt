@@ -1,23 +1,19 @@
 -- A line while the addressees are gone through. Assumes nothing.
-use mathlib.Core.Path.{_≡_, refl, ap, sym, _∙_}
-use mathlib.Core.Bool.{Bool, true, false, _&&_}
-use mathlib.Core.List.{List, [], _∷_, _++_, map, append-nil, append-assoc}
-use Prim.Native.Nat.{ℕ, _+_, _-_, _<_, _≤_, min}
+use mathlib.Core.Path.{_≡_, ap, sym, _∙_}
+use mathlib.Core.Bool.{Bool, true, false}
+use mathlib.Core.List.{List, [], _∷_, _++_, append-nil, append-assoc}
+use Prim.Native.Nat.{ℕ, _+_, _<_, _≤_, min}
 use native.Mathlib.Omega.{arith}
 use lib.Dec.{ltb}
 use lib.ListN.{length, length-append, length-map}
 use Rattle.std.specs.Iters.{counting}
 use Rattle.std.specs.shelf.Lists.{kept-by, countBy}
 use Rattle.std.proofs.shelf.Lists.{length-push, map-push}
-use Rattle.std.proofs.shelf.Tests.{and-from, and-left, and-right, lt-ltb, le-ltb}
+use Rattle.std.proofs.shelf.Tests.{and-from, and-left, and-right, lt-ltb, le-ltb, ltb-true, ltb-false}
 use Rattle.posts.specs.Meaning.{Item, sendable, addressed}
 use Rattle.posts.specs.Lines.{served}
+use Rattle.posts.specs.Midway.{Filling}
 use Rattle.posts.proofs.Kept.{kept-yes, kept-no, count-yes, count-no}
-
--- xs were there before, and ys are there once the addressees below q have been gone through
-pub record Filling (xs : List Item) (frame : List ℕ) (to : ℕ → Bool) (q : ℕ) (ys : List Item) : Type 0 where
-  pub list : ys ≡ xs ++ map (addressed frame) (kept-by (served xs frame to) (counting 0 q))
-  pub size : length ys ≡ min 64 (length xs + countBy to (counting 0 q))
 
 module _ (xs : List Item) (frame : List ℕ) (to : ℕ → Bool) where
   pub filling-none : length xs ≤ 64 → Filling xs frame to 0 xs
@@ -31,15 +27,17 @@ module _ (xs : List Item) (frame : List ℕ) (to : ℕ → Bool) where
     pub filling-no : to q ≡ false → zs ≡ ys → Filling xs frame to (q + 1) zs
     filling-no e = filling-skip (and-right (sendable frame) _ (and-left (to q) _ e)) (rw (count-no to q e) (f .size))
 
-    pub filling-full : to q ≡ true → 64 ≤ length ys → zs ≡ ys → Filling xs frame to (q + 1) zs
-    filling-full e full =
+    pub filling-full : to q ≡ true → ltb (length ys) 64 ≡ false → zs ≡ ys → Filling xs frame to (q + 1) zs
+    filling-full e none =
+        let full = ltb-false (length ys) 64 none in
         let size = f .size in
         let more = count-yes to q e in
         let past : 64 ≤ length xs + countBy to (counting 0 q) = omega arith in
         filling-skip (and-right (sendable frame) _ (and-right (to q) _ (le-ltb _ 64 past))) (omega arith)
 
-    pub filling-yes : sendable frame ≡ true → to q ≡ true → length ys < 64 → zs ≡ ys ++ addressed frame q ∷ [] → Filling xs frame to (q + 1) zs
-    filling-yes fit e room pushed =
+    pub filling-yes : sendable frame ≡ true → to q ≡ true → ltb (length ys) 64 ≡ true → zs ≡ ys ++ addressed frame q ∷ [] → Filling xs frame to (q + 1) zs
+    filling-yes fit e some pushed =
+        let room = ltb-true (length ys) 64 some in
         let size = f .size in
         let more = count-yes to q e in
         let long = length-push ys (addressed frame q) in

@@ -2,16 +2,17 @@
 use mathlib.Core.Path.{_≡_}
 use mathlib.Core.Bool.{Bool, true, false}
 use mathlib.Core.List.{List}
-use Prim.Native.Nat.{ℕ, _+_}
+use Prim.Native.Nat.{ℕ, _-_}
 use native.Mathlib.Omega.{arith}
 use lib.ListN.{length}
 use Rattle.std.proofs.shelf.Tests.{and-parts}
 use Rattle.posts.specs.Meaning.{PostLaws, Puts, sendable}
 use Rattle.posts.specs.Lines.{line-means, line-items, Queues}
+use Rattle.posts.specs.Midway.{Filling}
 use Rattle.posts.specs.declared.line.Line.{Line}
 use Rattle.posts.proofs.Parcels.{parcels-sendable}
-use Rattle.posts.proofs.Putting.{puts-refused, list-refused, puts-kept, list-kept}
-use Rattle.posts.proofs.Filling.{Filling, filling-count}
+use Rattle.posts.proofs.Putting.{list-refused, puts-kept, list-kept}
+use Rattle.posts.proofs.Filling.{filling-count}
 
 pub line-lawful : PostLaws line-means
 line-lawful =
@@ -22,11 +23,14 @@ line-lawful =
     }
 
 module _ (before : Line) (frame : List ℕ) (to : ℕ → Bool) where
-  pub line-refused : sendable frame ≡ false → Puts line-means before frame to 0 before × Queues before frame to before
-  line-refused unfit =
-      (puts-refused line-means before frame to line-lawful unfit, record { list = list-refused line-means before frame to line-lawful unfit })
+  pub queues-refused : sendable frame ≡ false → Queues before frame to before
+  queues-refused unfit = record { list = list-refused line-means before frame to line-lawful unfit }
 
-  pub line-filled : (after : Line) (n q : ℕ) → q ≡ 8 → sendable frame ≡ true → Filling (line-items before) frame to q (line-items after) → length (line-items after) ≡ length (line-items before) + n → Puts line-means before frame to n after × Queues before frame to after
-  line-filled after n q all fit f added =
-      let count = filling-count (line-items before) frame to q (line-items after) f in
-      (puts-kept line-means before frame to after n 0 q all fit (f .list) (omega arith), record { list = list-kept line-means before frame to after 0 q all (f .list) })
+  module _ (after : Line) (q : ℕ) (all : q ≡ 8) (f : Filling (line-items before) frame to q (line-items after)) where
+    pub queues-filled : Queues before frame to after
+    queues-filled = record { list = list-kept line-means before frame to after 0 q all (f .list) }
+
+    pub puts-filled : (n : ℕ) → sendable frame ≡ true → n ≡ length (line-items after) - length (line-items before) → Puts line-means before frame to n after
+    puts-filled n fit added =
+        let count = filling-count (line-items before) frame to q (line-items after) f in
+        puts-kept line-means before frame to after n 0 q all fit (f .list) (omega arith)

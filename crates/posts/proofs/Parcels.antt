@@ -4,6 +4,7 @@ use mathlib.Core.Bool.{true, false}
 use mathlib.Core.List.{List, [], _∷_, _++_, map}
 use Prim.Native.Nat.{ℕ, _+_, _≤_, _<_}
 use native.Mathlib.Omega.{arith}
+use borrow.Author.Needs.{needs}
 use lib.ListN.{length, getD, take, length-map}
 use Rattle.std.specs.Holes.{removed}
 use Rattle.std.specs.shelf.Lists.{All}
@@ -12,6 +13,8 @@ use Rattle.std.proofs.shelf.Sums.{countBy-more-yes, countBy-more-no}
 use Rattle.std.proofs.shelf.Tests.{and-from, lt-ltb, le-leb}
 use Rattle.posts.specs.Meaning.{Item, no-item, is-for, waiting, sendable}
 use Rattle.posts.specs.Parcels.{meant}
+use Rattle.posts.specs.Trays.{tray-items}
+use Rattle.posts.specs.declared.tray.Tray.{Tray}
 use Rattle.posts.specs.declared.parcel.Parcel.{Parcel}
 
 module _ (ps : List Parcel) (i : ℕ) where
@@ -49,3 +52,7 @@ meant-removed ps i = simp (map-append, take-map, drop-map)
 -- a parcel pushed is its item pushed
 pub meant-push : (ps qs : List Parcel) (p : Parcel) (item : Item) → qs ≡ ps ++ p ∷ [] → meant p ≡ item → map meant qs ≡ map meant ps ++ item ∷ []
 meant-push ps qs p item pushed is = ap (map meant) pushed ∙ map-push meant ps p ∙ ap (λ x. map meant ps ++ x ∷ []) is
+
+-- a tray holds at most 64 items
+pub tray-few : (tray : Tray) → length (tray-items tray) ≤ 64
+tray-few tray = simp length-map (search needs)

@@ -1,12 +1,12 @@
 -- What a put has to show. Assumes nothing.
-use mathlib.Core.Path.{_≡_, refl, ap, sym, _∙_}
+use mathlib.Core.Path.{_≡_, refl, sym, _∙_}
 use mathlib.Core.Bool.{Bool, true, false}
 use mathlib.Core.List.{List, [], _∷_, _++_, map, append-nil}
 use Prim.Native.Nat.{ℕ, zero, suc}
 use lib.ListN.{length, drop}
 use Rattle.std.specs.Iters.{counting}
 use Rattle.std.specs.shelf.Lists.{kept-by}
-use Rattle.std.proofs.shelf.Tests.{both-ways, cond-false, cases-bool}
+use Rattle.std.proofs.shelf.Tests.{both-ways, cond-false}
 use Rattle.posts.specs.Meaning.{Item, PostMeaning, PostLaws, Thinned, end, stays, goes, Puts, kept, sendable, addressed}
 
 pub thinned-drop : (k : ℕ) (xs : List Item) → Thinned (drop k xs) xs
@@ -20,26 +20,37 @@ kept-none p none [] = refl
 kept-none p none (q ∷ qs) = cond-false (p q) _ _ (none q) ∙ kept-none p none qs
 
 module _ {P : Type 0} (m : PostMeaning P) (before : P) (frame : List ℕ) (to : ℕ → Bool) where
-  -- where the frame cannot be carried, nobody is kept
-  nobody : PostLaws m → sendable frame ≡ false → kept m before frame to ≡ []
-  nobody laws unfit = kept-none (m .keeps before frame to) (λ q. not-kept q (m .keeps before frame to q) refl) (counting 0 8)
+  -- a put that is kept for nobody
+  module _ (nobody : (q : ℕ) → m .keeps before frame to q ≡ false) where
+    none : kept m before frame to ≡ []
+    none = kept-none (m .keeps before frame to) nobody (counting 0 8)
+
+    list-nobody : m .items before ≡ m .items before ++ map (addressed frame) (kept m before frame to)
+    list-nobody = rw none (sym (append-nil (m .items before)))
+
+    pub puts-nobody : Puts m before frame to 0 before
+    puts-nobody =
+        record {
+          left = m .items before;
+          thinned = thinned-drop 0 (m .items before);
+          list = list-nobody;
+          count = rw none refl;
+          refused = λ _. refl;
+        }
+
+  -- a frame that cannot be carried
+  not-carried : PostLaws m → sendable frame ≡ false → (q : ℕ) → m .keeps before frame to q ≡ false
+  not-carried laws unfit q = not-kept (m .keeps before frame to q) refl
     where
-      not-kept : (q : ℕ) (b : Bool) → m .keeps before frame to q ≡ b → b ≡ false
-      not-kept q false e = refl
-      not-kept q true e = absurd (both-ways (sendable frame) unfit (laws .carried before frame to q e))
+      not-kept : (b : Bool) → m .keeps before frame to q ≡ b → b ≡ false
+      not-kept false e = refl
+      not-kept true e = absurd (both-ways (sendable frame) unfit (laws .carried before frame to q e))
 
   pub list-refused : PostLaws m → sendable frame ≡ false → m .items before ≡ m .items before ++ map (addressed frame) (kept m before frame to)
-  list-refused laws unfit = rw (nobody laws unfit) (sym (append-nil (m .items before)))
+  list-refused laws unfit = list-nobody (not-carried laws unfit)
 
   pub puts-refused : PostLaws m → sendable frame ≡ false → Puts m before frame to 0 before
-  puts-refused laws unfit =
-      record {
-        left = m .items before;
-        thinned = thinned-drop 0 (m .items before);
-        list = list-refused laws unfit;
-        count = rw (nobody laws unfit) refl;
-        refused = λ _. refl;
-      }
+  puts-refused laws unfit = puts-nobody (not-carried laws unfit)
 
   -- all the addressees have been gone through: the oldest k are gone, and those kept follow
   pub list-kept : (after : P) (k q : ℕ) → q ≡ 8 → m .items after ≡ drop k (m .items before) ++ map (addressed frame) (kept-by (m .keeps before frame to) (counting 0 q)) → m .items after ≡ drop k (m .items before) ++ map (addressed frame) (kept m before frame to)

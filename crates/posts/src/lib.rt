@@ -1,5 +1,9 @@
 // Posts: what carries frames between participants, and what it may lose.
+pub mod barrier;
 pub mod line;
+mod masks;
 mod parcel;
 pub mod post;
-mod reads;
+pub mod quota;
+pub mod shelf;
+mod tray;

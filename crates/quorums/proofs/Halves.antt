@@ -1,31 +1,23 @@
--- The majority rule as a rule by weight, and its maker. Assumes nothing.
-use mathlib.Core.Path.{_≡_, refl, ap, subst, sym, _∙_}
-use mathlib.Core.Bool.{Bool, true, false, cond, _&&_}
+-- The majority rule as a rule by weight. Assumes nothing.
+use mathlib.Core.Path.{_≡_, refl, subst, _∙_}
 use Prim.Native.Nat.{ℕ, zero, suc, _+_, _*_, _/_, _≤_}
-use native.Mathlib.Bridge.{le-prop}
 use native.Mathlib.Omega.{arith}
-use lib.Dec.{leb, ltb}
-use Rattle.std.proofs.shelf.Tests.{both-ways, and-from, le-leb}
+use lib.Dec.{T, leb, ltb, leb→le}
+use mir.Facts.{and-yes}
 use Rattle.std.proofs.shelf.Ways.{tells}
-use Rattle.std.specs.declared.result.Result.the-variants.{Ok}
-use Rattle.std.specs.declared.option.Option.the-variants.{Some}
-use Rattle.quorums.specs.declared.majority.Majority.{Majority}
 use Rattle.quorums.specs.Meaning.{RuleLaws}
-use Rattle.quorums.specs.Weights.{weight-of, total, weighing}
-use Rattle.quorums.specs.Majorities.{majority, majority-if, made-majority}
+use Rattle.quorums.specs.Sizes.{is-size}
+use Rattle.quorums.specs.Weights.{weight-of, total}
+use Rattle.quorums.specs.Majorities.{majority}
 use Rattle.quorums.proofs.Weighing.{weighing-lawful}
 use Rattle.model.proofs.Masks.{sum-more}
 
-same : (n : ℕ) {a c : 2 ≤ n} {b d : n ≤ 7} → _≡_ {A = Majority} (record { n = n; least = a; most = b }) (record { n = n; least = c; most = d })
-same n {a} {c} {b} {d} = λ i. record { n = n; least = le-prop a c i; most = le-prop b d i }
+-- what a rule's size tells
+pub size-least : (n : ℕ) → T (is-size n) → 2 ≤ n
+size-least n t = leb→le 2 n (and-yes (leb 2 n) (leb n 7) t .0)
 
--- from 2 to 7 the rule is made, whatever shows the bounds
-pub majority-made : (n : ℕ) (a : 2 ≤ n) (b : n ≤ 7) → made-majority n ≡ Ok (record { n = n; least = a; most = b })
-majority-made n a b = go (leb 2 n && leb n 7) refl
-  where
-    go : (t : Bool) (e : (leb 2 n && leb n 7) ≡ t) → majority-if n t e ≡ Ok (record { n = n; least = a; most = b })
-    go true e = ap Ok (same n)
-    go false e = absurd (both-ways _ e (and-from _ _ (le-leb 2 n a) (le-leb n 7 b)))
+pub size-most : (n : ℕ) → T (is-size n) → n ≤ 7
+size-most n t = leb→le n 7 (and-yes (leb 2 n) (leb n 7) t .1)
 
 -- each of n weighs 1
 pub heads : (n : ℕ) → total (λ i. 1) n ≡ n
@@ -45,4 +37,4 @@ majority-lawful =
       chooses = λ q s. as-threshold (q .n) (weight-of (λ i. 1) (q .n) s) i;
     })
     (weighing-lawful (λ q. q .n) (λ q i. 1) (λ q. q .n / 2 + 1) (λ q. q .n / 2 + 1)
-    (λ q. omega (arith, heads (q .n), q .least)) (λ q. omega (arith, heads (q .n), q .least)) (λ q. omega (arith, heads (q .n))))
+    (λ q. omega (arith, heads (q .n), size-least (q .n) (q .ok))) (λ q. omega (arith, heads (q .n), size-least (q .n) (q .ok))) (λ q. omega (arith, heads (q .n))))

@@ -1,2 +1,4 @@
 pub mod Weighing
 pub mod Halves
+pub mod Loads
+pub mod Worked

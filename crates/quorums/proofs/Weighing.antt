@@ -3,11 +3,10 @@ use mathlib.Core.Path.{_≡_, refl}
 use mathlib.Core.Bool.{Bool, true, false, cond}
 use Prim.Native.Nat.{ℕ, zero, suc, _+_, _<_, _≤_}
 use native.Mathlib.Omega.{arith}
-use lib.Dec.{leb}
 use Rattle.std.proofs.shelf.Tests.{leb-true, le-leb}
 use Rattle.std.proofs.shelf.Ways.{tells}
 use Rattle.model.proofs.Masks.{sum-more}
-use Rattle.quorums.specs.Meaning.{RuleMeaning, RuleLaws, Within, Everyone, Share}
+use Rattle.quorums.specs.Meaning.{RuleLaws, Within, Everyone, Share}
 use Rattle.quorums.specs.Weights.{weight-of, total, weighing}
 
 module _ (w : ℕ → ℕ) where

@@ -1,3 +1,7 @@
 pub mod Meaning
+pub mod Sizes
 pub mod Weights
 pub mod Majorities
+pub mod Thresholds
+pub mod WeightedRules
+pub mod Examples

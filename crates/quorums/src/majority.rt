@@ -1,14 +1,14 @@
 // More than half of the participants.
-ghost use Prim.Native.Nat.{_≤_};
+ghost use lib.Dec.{T};
+ghost use Rattle.quorums.specs.Sizes.{is-size};
 
 // The majority rule for n participants, 2 to 7.
 #[derive(Clone, Copy, Debug, PartialEq, Eq)]
 pub struct Majority {
     n: usize,
-    ghost least: { 2 ≤ n },
-    ghost most: { n ≤ 7 },
+    ghost ok: { T (is-size n) },
 }
 
 mod methods;
 
-pub use methods::MajorityRule;
+pub use self::methods::MajorityRule;

@@ -2,5 +2,6 @@
 pub mod broken;
 #[cfg(test)]
 mod refusals;
+pub mod rounds;
 #[cfg(test)]
 mod sessions;

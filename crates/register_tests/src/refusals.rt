@@ -1,6 +1,7 @@
 // Refusals with their layer, number and place, at the library's own calls.
 use crate::broken::Broken;
 use crate::broken::BrokenStore;
+use crate::rounds::refusal;
 use kinds::glyph::Glyph;
 use kinds::glyph_numbers::GlyphNumbers;
 use kinds::glyph_numbers::GlyphNumbersKind;
@@ -36,17 +37,6 @@ fn fault(layer: Layer, number: u8, place: usize) -> Fault {
         layer,
         number,
         place,
-    }
-}
-
-// Ends a round that a test did not expect to hold, so that its refusal can be told.
-fn refusal<T: Drop>(r: Result<(Round, T), Fault>) -> Option<Fault> {
-    match r {
-        Ok((round, _)) => {
-            round.abandon();
-            None
-        }
-        Err(fault) => Some(fault),
     }
 }
 

@@ -1,1 +1,4 @@
-pub mod Decimals
+pub mod Cutting
+pub mod Gathering
+pub mod Naming
+pub mod Spelling

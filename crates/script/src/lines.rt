@@ -1,4 +1,4 @@
-// Lines, cut out of the bytes of an input as they come.
+// Lines, collected from the blocks of an input as they come.
 ghost use Prim.Native.Nat.{_≤_};
 
 // The longest line that can be read.
@@ -7,10 +7,9 @@ pub const LONGEST: usize = 80;
 // The line that is being collected. Of a longer one nothing is kept but that it is too long.
 #[derive(Drop)]
 pub struct Lines {
-    bytes: [u8; 80],
+    bytes: [u8; LONGEST],
     len: usize,
     too_long: bool,
-    begun: bool,
     ghost few: { len ≤ 80 },
 }
 

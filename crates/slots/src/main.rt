@@ -36,6 +36,7 @@ fn run(rt: &LibcRuntime) -> Result<(), AnyError> {
     Ok(())
 }
 
+// Answers each line that ends in the block, and keeps the rest for the next one.
 fn take_block<W: Write>(
     heap: Global,
     session: &mut Session,
@@ -43,10 +44,10 @@ fn take_block<W: Write>(
     block: &[u8],
     out: &mut W,
 ) -> Result<(), AnyError> {
-    for b in block {
-        if lines.push(*b) {
-            answer_line(heap, session, lines, out)?;
-        }
+    let mut from = 0;
+    while let Some(next) = lines.take_from(block, from) {
+        answer_line(heap, session, lines, out)?;
+        from = next;
     }
     Ok(())
 }

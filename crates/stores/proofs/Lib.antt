@@ -1,2 +1,4 @@
+pub mod EntryParts
 pub mod Overwriting
 pub mod PageBytes
+pub mod Saves

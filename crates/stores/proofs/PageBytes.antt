@@ -12,19 +12,10 @@ use Rattle.std.proofs.shelf.Tests.{lt-ltb, ltb-true, cases-lt, cond-both}
 use Rattle.model.specs.Bytes.{written, spelled}
 use Rattle.model.specs.Entries.{none, is-entry, clean}
 use Rattle.model.specs.declared.entries.Entry.{Entry}
-use Rattle.model.proofs.EntryBytes.{spelled-written}
-use Rattle.model.proofs.Proper.{clean-same}
 use Rattle.stores.specs.Page.{page-entry}
 use Rattle.stores.specs.Parts.{overwritten}
+use Rattle.stores.proofs.EntryParts.{length-written, written-counts}
 use Rattle.stores.proofs.Overwriting.{length-overwritten, part-there, part-before, part-after}
-
-pub length-written : (e : Entry) → length (written e) ≡ 12
-unfolding written
-length-written e = refl
-
--- an entry's own bytes count as it
-pub written-counts : (e : Entry) → is-entry e ≡ true → clean (spelled (written e)) ≡ e
-written-counts e ok = ap clean (spelled-written e ok) ∙ clean-same e ok
 
 module _ (bs : List ℕ) (k : ℕ) (e : Entry) (there : k < length bs / 12) where
   abbrev after : List ℕ

@@ -1,3 +1,5 @@
+pub mod Brittle
+pub mod Journal
 pub mod Meaning
 pub mod Page
 pub mod Parts

@@ -7,6 +7,7 @@ ghost use Rattle.model.specs.Entries.{none, clean};
 ghost use Rattle.std.specs.declared.result.Result.the-variants.{Ok};
 ghost use Rattle.stores.specs.Meaning.{Saves, Fresh};
 ghost use Rattle.stores.specs.Page.{page-means, page-bytes, page-entry, page-places, page-saved};
+use crate::raw::ENTRY_BYTES;
 use crate::raw::entry_at;
 use crate::raw::overwrite;
 use crate::raw::zeroed;
@@ -14,7 +15,7 @@ use crate::store::SaveFailed;
 use crate::store::Store;
 use model::entries::Entry;
 
-// Bytes of the caller's with a place for each whole twelve of them. What is left over at the end is left alone.
+// Bytes of the caller's with a place for each whole twelve of them. What is left over at the end is no place.
 #[derive(Debug, Drop)]
 pub struct PageStore {
     bytes: Vec<u8>,
@@ -44,7 +45,7 @@ impl PageStore {
         ensures saves { λ _. ⌜ Saves page-means (now (self .entry)) place (clean e) (Ok tt) (now (self .exit)) ⌝ }
         ensures bytes { λ _. ⌜ page-bytes (now (self .exit)) ≡ page-saved (page-bytes (now (self .entry))) place (clean e) ⌝ }
     {
-        overwrite(&mut self.bytes, 12 * place, &e.to_bytes());
+        overwrite(&mut self.bytes, ENTRY_BYTES * place, &e.to_bytes());
     }
 }
 
@@ -60,12 +61,12 @@ pub impl Store for PageStore as PageStoreStore {
     ghost means = { page-means };
 
     fn places(&self) -> usize {
-        self.bytes.len() / 12
+        self.bytes.len() / ENTRY_BYTES
     }
 
     fn load(&self, place: usize) -> Entry {
         if place < self.places() {
-            entry_at(&self.bytes, 12 * place)
+            entry_at(&self.bytes, ENTRY_BYTES * place)
         } else {
             Entry::none()
         }
@@ -81,36 +82,5 @@ pub impl Store for PageStore as PageStoreStore {
         } else {
             Err(SaveFailed { place })
         }
-    }
-}
-
-#[cfg(test)]
-mod tests {
-    use super::*;
-    use crate::store::SaveFailedDebug;
-    use crate::store::SaveFailedPartialEq;
-    use std::test::*;
-
-    const SAMPLE: Entry = Entry {
-        promise: 3,
-        vote: 3,
-        code: 68,
-    };
-
-    #[test]
-    fn a_save_is_loaded_again(rt: LibcRuntime) -> Result<(), Fail> {
-        let mut page = PageStore::new(vec![in rt.alloc(); 7; 27]?);
-        page.save(1, SAMPLE)?;
-        check_eq(page.load(1).code, 68)?;
-        check_eq(page.load(0).promise, -1)?;
-        check(page.bytes()[17] == 4)
-    }
-
-    #[test]
-    fn a_ragged_end_is_no_place(rt: LibcRuntime) -> Result<(), Fail> {
-        let mut page = PageStore::new(vec![in rt.alloc(); 7; 27]?);
-        check_eq(page.places(), 2)?;
-        check_eq(page.save(2, SAMPLE), Err(SaveFailed { place: 2 }))?;
-        check_eq(page.load(2).vote, -1)
     }
 }

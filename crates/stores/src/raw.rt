@@ -8,6 +8,9 @@ ghost use Rattle.model.specs.Entries.{clean};
 ghost use Rattle.stores.specs.Parts.{overwritten};
 use model::entries::Entry;
 
+// The bytes of an entry.
+pub(crate) const ENTRY_BYTES: usize = 12;
+
 // As many bytes, all zero.
 pub(crate) fn zeroed(mut bytes: Vec<u8>) -> Vec<u8>
     ensures items { λ r. ⌜ vec-items r ≡ replicate (vec-len bytes) 0 ⌝ }

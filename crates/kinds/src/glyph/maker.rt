@@ -2,8 +2,8 @@
 ghost use mathlib.Core.Path.{_≡_};
 ghost use Rattle.kinds.specs.Glyphs.{glyph-at, made-glyph};
 use super::Glyph;
+use crate::refusal::out_of_range;
 use model::faults::Fault;
-use model::faults::Layer;
 
 impl Glyph {
     // The glyph of this number, or refusal 13.
@@ -12,11 +12,7 @@ impl Glyph {
     {
         match Glyph::at(number as u64) {
             Some(glyph) => Ok(glyph),
-            None => Err(Fault {
-                layer: Layer::Value,
-                number: 13,
-                place: 0,
-            }),
+            None => Err(out_of_range()),
         }
     }
 

@@ -2,17 +2,18 @@
 ghost use mathlib.Core.Path.{_≡_};
 ghost use mathlib.Core.Bool.{true};
 ghost use mathlib.Core.List.{_++_};
-ghost use Prim.Native.Nat.{ℕ, _-_, _≤_};
+ghost use Prim.Native.Nat.{_≤_};
 ghost use lib.ListN.{length, drop, replicate};
 ghost use Rattle.posts.specs.Meaning.{sendable, addressed, is-for};
 ghost use Rattle.posts.specs.Parcels.{meant};
 use super::Parcel;
+use crate::post::LONGEST;
 
 // Whether the post can carry the frame.
 pub(crate) fn sendable(frame: &[u8]) -> bool
     ensures { λ r. ⌜ r ≡ sendable (now (frame .entry)) ⌝ }
 {
-    0 < frame.len() && frame.len() <= 88
+    0 < frame.len() && frame.len() <= LONGEST
 }
 
 // The frame, and zeros after it.
@@ -50,8 +51,7 @@ impl Parcel {
         ensures long { λ r. ⌜ r ≡ length (meant (now (self .entry)) .frame) ⌝ }
         ensures opens { λ r. ⌜ now (out .exit) ≡ meant (now (self .entry)) .frame ++ drop r (now (out .entry)) ⌝ }
     {
-        let frame = &self.bytes[0..self.len];
-        out[0..self.len].copy_from_slice(frame);
+        out[0..self.len].copy_from_slice(&self.bytes[0..self.len]);
         self.len
     }
 }

@@ -5,9 +5,9 @@ ghost use Rattle.model.specs.Sets.{member};
 ghost use Rattle.quorums.specs.Majorities.{majority, made-majority};
 ghost use Rattle.quorums.specs.Weights.{weight-of};
 use super::Majority;
+use crate::refusal::no_rule;
 use crate::rule::QuorumRule;
 use model::faults::Fault;
-use model::faults::Layer;
 use model::sets;
 
 impl Majority {
@@ -18,11 +18,7 @@ impl Majority {
         if 2 <= n && n <= 7 {
             Ok(Majority { n })
         } else {
-            Err(Fault {
-                layer: Layer::Rule,
-                number: 14,
-                place: 0,
-            })
+            Err(no_rule())
         }
     }
 

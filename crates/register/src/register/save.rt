@@ -13,7 +13,7 @@ use model::entries::EntryPartialEq;
 use model::faults::Fault;
 use model::faults::Layer;
 use model::rows::Row;
-use model::sets::single;
+use model::sets::with;
 use posts::post::Post;
 use quorums::rule::QuorumRule;
 use stores::store::Store;
@@ -36,7 +36,7 @@ pub(super) fn keep<S: Store>(
     match store.save(place, e) {
         Ok(()) => Ok(()),
         Err(failed) => {
-            *down |= single(p);
+            *down = with(*down, p);
             Err(Fault {
                 layer: Layer::Store,
                 number: 12,

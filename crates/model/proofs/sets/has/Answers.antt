@@ -1,6 +1,5 @@
 use mathlib.Core.Path.{sym, _∙_}
 use borrow.Author.Tests.{le-ltb}
-use native.Mathlib.Omega.{arith}
 use Rattle.model.proofs.Masks.{member-past}
 use Rattle.model.proofs.sets.has.Needs as need
 

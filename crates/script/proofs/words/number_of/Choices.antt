@@ -1,5 +1,5 @@
-use Prim.Native.Nat.{_^_, _<_}
+use Rattle.script.proofs.Spelling.{Read}
 use Rattle.script.proofs.words.number_of.Given as given
 
 abbrev pub Inv-loop-b : given.InvT-loop-b
-Inv-loop-b l = l .n < 10 ^ l .b-index
+Inv-loop-b l = Read (l .word) (l .b-index) (l .n)

@@ -1,4 +1,3 @@
-use native.Mathlib.Omega.{arith}
 use borrow.Author.Needs.{needs}
 use Rattle.kinds.proofs.Values.{glyph-at-number, number-of-glyph-at}
 use Rattle.kinds.proofs.glyph_numbers.GlyphNumbersKind.the-impl.Needs as need

@@ -1,6 +1,6 @@
 use mathlib.Core.Path.{sym}
 use native.Mathlib.Omega.{arith}
-use Rattle.frames.proofs.Addressing.{not-to-sender}
+use Rattle.frames.proofs.Addresses.{not-to-sender}
 use Rattle.register.proofs.register.Register.take_over.Needs as need
 
 pub answer-to-to-requires : need.answer-to-to-requires
@@ -10,4 +10,4 @@ answer-to-to-requires g c κs =
     let same = us .same-n in
     let from = h .sent in
     let few = h .few in
-    (omega arith, (c .pre .0, (omega arith, λ e. not-to-sender (h .sort) (h .n) (h .sender) (h .to) (c .args .q) few from (h .addressed) (us .addressed) (sym e))))
+    (omega arith, (c .pre .0, (omega arith, λ e. not-to-sender (h .sort) (h .n) (h .sender) (h .to) (c .args .q) (h .addressed) (us .addressed) (sym e))))

@@ -1,0 +1,4 @@
+// The reader, driven with damaged frames.
+pub mod flags;
+#[cfg(test)]
+mod tests;

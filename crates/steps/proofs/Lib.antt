@@ -1,0 +1,4 @@
+pub mod Choosing
+pub mod Growth
+pub mod Leading
+pub mod Marked

@@ -1,0 +1,3 @@
+// The stores at work over memory.
+#[cfg(test)]
+mod tests;
