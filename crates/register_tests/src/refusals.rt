@@ -135,6 +135,45 @@ fn a_round_comes_back_and_is_used_again(rt: LibcRuntime) -> Result<(), Fail> {
     }
 }
 
+// A round from a register that is set up alike, since an accept that is taken leaves none behind.
+#[test]
+fn a_second_vote_in_a_ballot(rt: LibcRuntime) -> Result<(), Fail> {
+    let mut rows = blank();
+    let mut twin_rows = blank();
+    let mut page = PageStore::new(vec![in rt.alloc(); 0u8; 36]?);
+    let mut line = Line::new(rt.alloc())?;
+    let mut buffer = [0u8; 88];
+    let glyph = Glyph::new(68)?;
+    let mut office = Office::set_up(3, 1, Majority::new(3)?, &mut rows, &page)?;
+    let mut twin = Office::set_up(3, 1, Majority::new(3)?, &mut twin_rows, &page)?;
+    let (round, _) = office.prepare(&mut rows, &mut page, &mut line, 0, 0, 3)?;
+    let one = office
+        .deliver(&mut rows, &mut page, &mut line, 1, 0, &mut buffer)
+        .ok();
+    let none = office
+        .deliver(&mut rows, &mut page, &mut line, 0, 0, &mut buffer)
+        .ok();
+    let first = accepted(office.accept(&mut rows, &mut page, &mut line, round, glyph));
+    check_eq(one, Some(1))?;
+    check_eq(none, Some(0))?;
+    check_eq(first, Some((68, 2)))?;
+    let (again, _) = twin.prepare(&mut twin_rows, &mut page, &mut line, 0, 0, 3)?;
+    match office.accept(&mut rows, &mut page, &mut line, again, glyph) {
+        Ok(_) => Err(Fail::new("participant 0 has voted in ballot 3")),
+        Err(refused) => {
+            let (why, round) = refused;
+            round.abandon();
+            check_eq(why, fault(Layer::Accept, 7, 0))
+        }
+    }
+}
+
+#[test]
+fn makers_refuse() -> Result<(), Fail> {
+    check_eq(Glyph::new(65535).err(), Some(fault(Layer::Value, 13, 0)))?;
+    check_eq(Majority::new(8).err(), Some(fault(Layer::Rule, 14, 0)))
+}
+
 // The value carried and the number kept, where the accept was taken.
 fn accepted(r: Result<(Glyph, usize), (Fault, Round)>) -> Option<(u16, usize)> {
     match r {
