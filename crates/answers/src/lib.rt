@@ -1,4 +1,6 @@
 // What a session answers to a line.
+#![tactic(auto)]
+
 ghost use Rattle.std.specs.Prelude.{Some};
 ghost use Rattle.answers.specs.Texts.{text};
 

@@ -1,4 +1,6 @@
 // The console: a session from standard input to standard output, one answer for each line.
+#![tactic(auto)]
+
 ghost use Rattle.std.specs.Prelude.{◌≡◌, ℕ, [], Some, OnOk};
 ghost use Rattle.console.specs.Left.{left};
 ghost use Rattle.script.specs.Collected.{collected};

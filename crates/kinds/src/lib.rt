@@ -1,4 +1,6 @@
 // Kinds of value: what a cell can be settled to.
+#![tactic(auto)]
+
 pub mod glyph;
 pub mod glyph_numbers;
 pub mod kind;

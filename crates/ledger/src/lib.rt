@@ -1,4 +1,6 @@
 // The theory of agreement for one cell.
+#![tactic(auto)]
+
 ghost use Rattle.std.specs.Prelude.{◌≡◌, true};
 ghost use Rattle.model.specs.Sets.{member};
 ghost use Rattle.ledger.specs.Agreement.{Agreement, Handed, NeverAhead, Settled};

@@ -1,1 +1,2 @@
 // The register as a state machine: what each call does, and what that means over all runs.
+#![tactic(auto)]

@@ -150,16 +150,16 @@ ones_below set n h =
     let few : min n 8 ≡ n = omega arith in
     ap (λ k. ones (bit_and set (2 ^ k - 1))) few ∙ ap ones (and_mask set n) ∙ ones_members set n
 
--- ---- what the calls on sets answer, with its members
+-- ---- what the calls on sets answer, by its members
 
-pub told_all : (r n : ℕ) → r ≡ all n → (r ≡ all n) × ((i : ℕ) → member r i ≡ (ltb i n && ltb i 8))
-told_all r n e = (e, λ i. ap (λ s. member s i) e ∙ member-all n i)
+pub told_all : (r n : ℕ) → r ≡ all n → (i : ℕ) → member r i ≡ (ltb i n && ltb i 8)
+told_all r n e i = ap (λ s. member s i) e ∙ member-all n i
 
-pub told_single : (r p : ℕ) → r ≡ single p → (r ≡ single p) × ((i : ℕ) → member r i ≡ (eqb i p && ltb p 8))
-told_single r p e = (e, λ i. ap (λ s. member s i) e ∙ member-single p i)
+pub told_single : (r p : ℕ) → r ≡ single p → (i : ℕ) → member r i ≡ (eqb i p && ltb p 8)
+told_single r p e i = ap (λ s. member s i) e ∙ member-single p i
 
-pub told_all_but : (r n p : ℕ) → r ≡ all_but n p → (r ≡ all_but n p) × ((i : ℕ) → member r i ≡ (ltb i n && ltb i 8 && not (eqb i p)))
-told_all_but r n p e = (e, λ i. ap (λ s. member s i) e ∙ member-all_but n p i)
+pub told_all_but : (r n p : ℕ) → r ≡ all_but n p → (i : ℕ) → member r i ≡ (ltb i n && ltb i 8 && not (eqb i p))
+told_all_but r n p e i = ap (λ s. member s i) e ∙ member-all_but n p i
 
-pub told_count : (set : ℕ) → set < 2 ^ 8 → (ones set ≡ ones set) × (ones set ≡ count_by (member set) (range_with_len 0 8))
-told_count set h = let whole : set ≡ set % 2 ^ 8 = omega arith in (refl, ap ones whole ∙ ones_members set 8)
+pub told_count : (set : ℕ) → set < 2 ^ 8 → ones set ≡ count_by (member set) (range_with_len 0 8)
+told_count set h = let whole : set ≡ set % 2 ^ 8 = omega arith in ap ones whole ∙ ones_members set 8

@@ -1,4 +1,6 @@
 // The words that every layer shares: entries and rows, sets of participants, faults.
+#![tactic(auto)]
+
 pub mod bytes;
 pub mod entries;
 pub mod faults;

@@ -13,7 +13,7 @@ pub fn has(set: u8, p: usize) -> bool
 // The participants 0 to n - 1.
 pub fn all(n: usize) -> u8
     ensures value { result ≡ all n }
-    ensures by_index { (i : ℕ) → member result i ≡ (nat_lt i n && nat_lt i 8) }
+    ensures by_members { (i : ℕ) → member result i ≡ (nat_lt i n && nat_lt i 8) }
 {
     if n < 8 { ((1u16 << n) - 1) as u8 } else { 255 }
 }
@@ -21,7 +21,7 @@ pub fn all(n: usize) -> u8
 // Participant p alone; nobody where p is past 7.
 pub fn single(p: usize) -> u8
     ensures value { result ≡ single p }
-    ensures by_index { (i : ℕ) → member result i ≡ (i == p && nat_lt p 8) }
+    ensures by_members { (i : ℕ) → member result i ≡ (i == p && nat_lt p 8) }
 {
     if p < 8 { 1 << p } else { 0 }
 }
@@ -29,7 +29,7 @@ pub fn single(p: usize) -> u8
 // The participants 0 to n - 1 without p.
 pub fn all_but(n: usize, p: usize) -> u8
     ensures value { result ≡ all_but n p }
-    ensures by_index { (i : ℕ) → member result i ≡ (nat_lt i n && nat_lt i 8 && not (i == p)) }
+    ensures by_members { (i : ℕ) → member result i ≡ (nat_lt i n && nat_lt i 8 && not (i == p)) }
 {
     if p < n && p < 8 {
         all(n) - single(p)
@@ -41,14 +41,14 @@ pub fn all_but(n: usize, p: usize) -> u8
 // The set with participant p in it. Nobody past 7 can be.
 pub fn with(set: u8, p: usize) -> u8
     ensures value { result ≡ with set p }
-    ensures by_index { (i : ℕ) → member result i ≡ (member set i || i == p && nat_lt p 8) }
+    ensures by_members { (i : ℕ) → member result i ≡ (member set i || i == p && nat_lt p 8) }
 {
     joined(set, p)
 }
 
 fn joined(set: u8, p: usize) -> u8
     ensures value { result ≡ with set p }
-    ensures by_index { (i : ℕ) → member result i ≡ (member set i || i == p && nat_lt p 8) }
+    ensures by_members { (i : ℕ) → member result i ≡ (member set i || i == p && nat_lt p 8) }
 {
     set | single(p)
 }
@@ -56,14 +56,14 @@ fn joined(set: u8, p: usize) -> u8
 // The set with participant p out of it.
 pub fn without(set: u8, p: usize) -> u8
     ensures value { result ≡ without set p }
-    ensures by_index { (i : ℕ) → member result i ≡ (member set i && not (i == p)) }
+    ensures by_members { (i : ℕ) → member result i ≡ (member set i && not (i == p)) }
 {
     cut(set, p)
 }
 
 fn cut(set: u8, p: usize) -> u8
     ensures value { result ≡ without set p }
-    ensures by_index { (i : ℕ) → member result i ≡ (member set i && not (i == p)) }
+    ensures by_members { (i : ℕ) → member result i ≡ (member set i && not (i == p)) }
 {
     set & all_but(8, p)
 }
@@ -71,7 +71,7 @@ fn cut(set: u8, p: usize) -> u8
 // How many participants are in the set.
 pub fn count(set: u8) -> usize
     ensures value { result ≡ count_ones set }
-    ensures value_2 { result ≡ count_by (member set) (range_with_len 0 8) }
+    ensures by_members { result ≡ count_by (member set) (range_with_len 0 8) }
 {
     set.count_ones() as usize
 }

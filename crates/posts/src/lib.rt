@@ -1,4 +1,6 @@
 // Posts: what carries frames between participants, and what it may lose.
+#![tactic(auto)]
+
 pub mod barrier;
 pub mod line;
 mod masks;

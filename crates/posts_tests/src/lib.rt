@@ -1,4 +1,6 @@
 // Posts at work.
+#![tactic(auto)]
+
 #[cfg(test)]
 mod layers;
 #[cfg(test)]

@@ -1,4 +1,6 @@
 // Quorum rules: which sets of participants suffice to promise, and which to choose.
+#![tactic(auto)]
+
 pub mod majority;
 mod refusal;
 pub mod rule;

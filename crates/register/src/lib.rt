@@ -1,4 +1,6 @@
 // The slot register: participants settle cells by the steps of TPaxos.
+#![tactic(auto)]
+
 mod bench;
 pub mod desk;
 mod held;

@@ -1,4 +1,6 @@
 // The script language of `slots`: lines of bytes, their words, and the commands they spell.
+#![tactic(auto)]
+
 pub mod command;
 pub mod lines;
 mod marks;

@@ -1,3 +1,5 @@
 // The stores at work over memory.
+#![tactic(auto)]
+
 #[cfg(test)]
 mod tests;

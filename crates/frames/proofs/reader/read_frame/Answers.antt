@@ -17,5 +17,5 @@ returns-in-err-check-address g c = answered _ _ _ _ _ _ (search (rules, in_parts
 pub returns : goal.returns
 returns g c =
     let bytes = c.args.bytes.now in
-    let small = All-from_get_or (λ d. d < 256) bytes 0 (λ i _. (c.type-inv.bytes i).fits) in
+    let small = All-from_get_or (λ d. d < 256) bytes 0 (λ i _. (c.type_inv.bytes i).fits) in
     answered _ _ _ _ _ _ (spells g.K.Kind.means bytes c.args.n c.args.cells c.args.q c.in-ok-header.header c.in-ok-row.row small c.in-ok-header.ensures c.in-ok-row.ensures c.in-ok-check-address.ensures)

@@ -4,11 +4,11 @@ use Rattle.std.proofs.lemmas.Int.Digits.{number_more}
 use Rattle.model.proofs.Numbers.{room, one_byte_more}
 use Rattle.model.proofs.bytes.number_of.Goals as goal
 
-pub overflow-mul-n : goal.overflow-mul-n
-overflow-mul-n c = record { fits = omega (arith, room c.loop-b.n c.loop-b.b-index 0 c.loop-b.invariant.1 (omega arith) (omega arith)) }
+pub overflow_mul-n : goal.overflow_mul-n
+overflow_mul-n c = record { fits = omega (arith, room c.loop-b.n c.loop-b.b-index 0 c.loop-b.invariant.1 (omega arith) (omega arith)) }
 
-pub overflow-add-n : goal.overflow-add-n
-overflow-add-n c = record { fits = room c.loop-b.n c.loop-b.b-index _ c.loop-b.invariant.1 (omega arith) (omega arith) }
+pub overflow_add-n : goal.overflow_add-n
+overflow_add-n c = record { fits = room c.loop-b.n c.loop-b.b-index _ c.loop-b.invariant.1 (omega arith) (omega arith) }
 
 pub loop-b-preserved : goal.loop-b-preserved
 loop-b-preserved c =

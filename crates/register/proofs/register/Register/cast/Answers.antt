@@ -13,7 +13,7 @@ returns-in-Ok g c =
     let y = board c.vote.new.self c.vote.new.rows c.vote.new.store c.vote.new.post in
     let b = to_z w32 (of_z w32 c.ballot.result) in
     let does = at_turn m x y (turn c.args.round) c.participant.result c.cell.result b c.args.v (Ok c.in-Ok.answer) c.participant.ensures c.cell.ensures
-    (to_z-of_z w32 c.ballot.result (record { sfits = c.ballot.type-inv }) ∙ c.ballot.ensures) c.in-Ok.ensures in
+    (to_z-of_z w32 c.ballot.result (record { sfits = c.ballot.type_inv }) ∙ c.ballot.ensures) c.in-Ok.ensures in
     record {
       does = does;
       grows = accepts_grow m g.met.K.Kind.lawful turn x y c.args.round c.args.v (Ok c.in-Ok.answer) does;
@@ -27,7 +27,7 @@ returns-in-Err g c =
     let y = board c.vote.new.self c.vote.new.rows c.vote.new.store c.vote.new.post in
     let b = to_z w32 (of_z w32 c.ballot.result) in
     let votes = at_turn m x y (turn c.args.round) c.participant.result c.cell.result b c.args.v (Err c.in-Err.fault) c.participant.ensures c.cell.ensures
-    (to_z-of_z w32 c.ballot.result (record { sfits = c.ballot.type-inv }) ∙ c.ballot.ensures) c.in-Err.ensures in
+    (to_z-of_z w32 c.ballot.result (record { sfits = c.ballot.type_inv }) ∙ c.ballot.ensures) c.in-Err.ensures in
     record {
       does = (refl, votes);
       grows = accepts_grow m g.met.K.Kind.lawful turn x y c.args.round c.args.v (Err (c.in-Err.fault, c.args.round)) (refl, votes);
