@@ -1,8 +1,7 @@
 // The kind of glyph numbers.
 ghost use Rattle.std.specs.Prelude.{◌≡◌};
 ghost use Rattle.kinds.specs.Glyphs.{glyph_numbers};
-ghost use Rattle.std.proofs.Common.{rules};
-ghost use Rattle.kinds.specs.ValuesLemmas.{glyph_at_number, number_of_glyph_at};
+ghost use Rattle.kinds.specs.ValuesLemmas.{glyphs_lawful};
 
 use crate::glyph::Glyph;
 use crate::kind::Kind;
@@ -18,7 +17,7 @@ impl Kind for GlyphNumbers {
 
     ghost means = { glyph_numbers };
 
-    ghost lawful = { record { small = Prim.search rules; fits = Prim.search rules; back = λ v. glyph_at_number v.number v.ok; same = number_of_glyph_at } };
+    ghost lawful = { glyphs_lawful };
 
     fn kind_number() -> u8 {
         1

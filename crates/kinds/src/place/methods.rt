@@ -22,7 +22,7 @@ impl Place {
     // The place with these coordinates, or refusal 13.
     pub fn new(first: i32, second: i32, third: i32) -> Result<Place, Fault>
         ensures value { result ≡ made_place first second third }
-        ensures glyph_examples { GlyphExamples × PlaceExamples }
+        ensures examples { GlyphExamples × PlaceExamples }
     {
         match Place::at(first, second, third) {
             Some(place) => Ok(place),

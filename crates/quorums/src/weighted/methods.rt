@@ -91,7 +91,7 @@ impl Weighted {
     // The rule for as many participants as there are weights, or refusal 14.
     pub fn new(weights: &[u8], promise: u32, choose: u32) -> Result<Weighted, Fault>
         ensures value { result ≡ made_weighted weights.now promise choose }
-        ensures majority_examples { MajorityExamples × WeightedExamples }
+        ensures examples { MajorityExamples × WeightedExamples }
     {
         let n = weights.len();
         let weights = seven(weights);

@@ -7,7 +7,7 @@ use Rattle.kinds.proofs.master_places.MasterPlacesKind.value.Goals as goal
 pub returns : goal.returns
 returns c =
     let n = c.args.code in
-    let x = widened c.cast-signed-first.result (to_z w16 (n / 2 ^ 32)) (record { sfits = c.cast-signed-first.type_inv }) c.cast-signed-first.ensures in
-    let y = widened c.cast-signed-second.result (to_z w16 (n / 2 ^ 16 % 2 ^ 16)) (record { sfits = c.cast-signed-second.type_inv }) c.cast-signed-second.ensures in
-    let z = widened c.cast-signed-third.result (to_z w16 (n % 2 ^ 16)) (record { sfits = c.cast-signed-third.type_inv }) c.cast-signed-third.ensures in
+    let x = widened c.cast_signed-first.result (to_z w16 (n / 2 ^ 32)) (record { sfits = c.cast_signed-first.type_inv }) c.cast_signed-first.ensures in
+    let y = widened c.cast_signed-second.result (to_z w16 (n / 2 ^ 16 % 2 ^ 16)) (record { sfits = c.cast_signed-second.type_inv }) c.cast_signed-second.ensures in
+    let z = widened c.cast_signed-third.result (to_z w16 (n % 2 ^ 16)) (record { sfits = c.cast_signed-third.type_inv }) c.cast_signed-third.ensures in
     c.at.ensures ∙ (λ i. place_at (x i) (y i) (z i)) ∙ sym (cond-true _ _ _ (lt-ltb n (2 ^ 48) c.if-code-ge281474976710656.false))

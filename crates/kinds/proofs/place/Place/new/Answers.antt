@@ -1,9 +1,8 @@
-use Rattle.std.proofs.Common.{rules}
 use Rattle.kinds.proofs.Worked.{glyph_examples, place_examples}
 use Rattle.kinds.proofs.place.Place.new.Goals as goal
 
-pub returns-in-Some : goal.returns-in-Some
-returns-in-Some c = (search rules, (glyph_examples, place_examples))
+pub returns-in-Some-clause-examples : goal.returns-in-Some-clause-examples
+returns-in-Some-clause-examples c = (glyph_examples, place_examples)
 
-pub returns-in-None : goal.returns-in-None
-returns-in-None c = (search rules, (glyph_examples, place_examples))
+pub returns-in-None-clause-examples : goal.returns-in-None-clause-examples
+returns-in-None-clause-examples c = (glyph_examples, place_examples)

@@ -8,8 +8,8 @@ use Rattle.posts.proofs.line.Line.fill.Goals as goal
 pub loop-q-init : goal.loop-q-init
 loop-q-init c = filling_none _ _ _ (simp length-map (search rules))
 
-pub overflow-sub-result : goal.overflow-sub-result
-overflow-sub-result c = let n = filling_count _ _ _ _ _ c.loop-q.invariant in search rules
+pub overflow_sub-result : goal.overflow_sub-result
+overflow_sub-result c = let n = filling_count _ _ _ _ _ c.loop-q.invariant in search rules
 
 pub returns : goal.returns
 returns c =

@@ -3,13 +3,13 @@ use Rattle.model.specs.Sets.{member}
 use Rattle.model.proofs.Masks.{member-past}
 use Rattle.posts.proofs.Members.{weeding_stays, weeding_goes, weeding_all}
 use Rattle.posts.proofs.quota.Quota.open_to.Goals as goal
-use Rattle.posts.proofs.quota.Quota.open_to.Goals.{then-not-has-room, else-not-has-room}
+use Rattle.posts.proofs.quota.Quota.open_to.Goals.{then-not-has_room, else-not-has_room}
 
 pub loop-q-preserved : goal.loop-q-preserved
 loop-q-preserved g c =
-    elim c.if-not-has-room.branch [
-      | then-not-has-room w ↦ weeding_goes _ _ _ _ c.loop-q.invariant _ _ (sym w.if-not-has-room.ensures) c.loop-q-test.true w.single.ensures.0 (ap member w.open-is ∙ w.without-open.ensures)
-      | else-not-has-room w ↦ rw w.open-is (weeding_stays _ _ _ _ c.loop-q.invariant (sym w.if-not-has-room.ensures))
+    elim c.if-not-has_room.branch [
+      | then-not-has_room w ↦ weeding_goes _ _ _ _ c.loop-q.invariant _ _ (sym w.if-not-has_room.ensures) c.loop-q-test.true w.single.ensures.value (ap member w.open-is ∙ w.without-open.ensures)
+      | else-not-has_room w ↦ rw w.open-is (weeding_stays _ _ _ _ c.loop-q.invariant (sym w.if-not-has_room.ensures))
     ]
 
 pub returns : goal.returns

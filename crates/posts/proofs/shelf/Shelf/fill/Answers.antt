@@ -15,6 +15,6 @@ returns c =
     let to = member c.args.to in
     let all : c.loop-q.q ≡ 8 = omega arith in
     record {
-      puts = puts_stocked before frame to _ _ all c.loop-q.invariant _ c.requires (c.count.ensures.0 ∙ sym (count_members c.args.to c.loop-q.q all c.ranges.to.fits));
+      puts = puts_stocked before frame to _ _ all c.loop-q.invariant _ c.requires (c.count.ensures.value ∙ sym (count_members c.args.to c.loop-q.q all c.ranges.to.fits));
       replaces = replaces_stocked before frame to _ _ all c.loop-q.invariant;
     }

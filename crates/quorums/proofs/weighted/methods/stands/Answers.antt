@@ -11,4 +11,4 @@ returns-then-light c =
     let n = c.args.n in
     c.crossed.ensures
     ∙ stands_from n ws c.args.promise c.args.choose c.weigh.result (omega arith) (omega arith) c.if-light.ensures
-    (c.weigh.ensures.weighs ∙ whole (weight ws) n (member c.all.result) (everyone c.all.result n (omega arith) c.all.ensures.1))
+    (c.weigh.ensures.weighs ∙ whole (weight ws) n (member c.all.result) (everyone c.all.result n (omega arith) c.all.ensures.by_members))

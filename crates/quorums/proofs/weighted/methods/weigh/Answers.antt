@@ -10,4 +10,4 @@ loop-i-preserved c =
     let w = weight c.args.weights.now in
     let s = member c.args.set in
     let more = ap (λ k. weight_of w k s) (add-one c.loop-i.i) ∙ weight_more w c.loop-i.i s in
-    (omega (arith, more, c.loop-i.invariant.0, c.share-sum.ensures.0), omega (arith, c.loop-i.invariant.1, c.share-sum.ensures.1))
+    (omega (arith, more, c.loop-i.invariant.0, c.share-sum.ensures.value), omega (arith, c.loop-i.invariant.1, c.share-sum.ensures.upper_bound))
