@@ -26,6 +26,7 @@ fn a_page_with_a_ragged_end(rt: HostRuntime) -> Result<(), Fail> {
             == [
                 0, 0, 4, 0, 0, 4, 0, 0, 0, 0, 0, 68, 0, 0, 0, 0, 0, 0, 0, 0, 0, 0, 0,
             ]
+            .as_slice()
     );
     Ok(())
 }
@@ -43,7 +44,7 @@ fn what_is_no_entry_is_saved_as_none(rt: HostRuntime) -> Result<(), Fail> {
 fn a_journal_filled_to_its_last_byte(rt: HostRuntime) -> Result<(), Fail> {
     let mut journal = JournalStore::new(vec![in rt.alloc(); 7; 42]?, 300);
     journal.save(258, voted(68))?;
-    assert!(rt; journal.used_bytes() == [1, 2, 0, 0, 4, 0, 0, 4, 0, 0, 0, 0, 0, 68]);
+    assert!(rt; journal.used_bytes() == [1, 2, 0, 0, 4, 0, 0, 4, 0, 0, 0, 0, 0, 68].as_slice());
     journal.save(0, voted(69))?;
     journal.save(258, voted(70))?;
     assert_eq!(rt; journal.load(258).code, 70);

@@ -6,21 +6,21 @@ use Rattle.frames.specs.Tables.{first_wrong, table_at}
 use Rattle.frames.proofs.Readings.{wrong_more, wrong_stops, row_more, unless_err, unless_ok}
 use Rattle.frames.proofs.reader.read_row.Goals as goal
 
-pub returns-in-err-row : goal.returns-in-err-row
-returns-in-err-row g c =
+pub returns-in_err-row : goal.returns-in_err-row
+returns-in_err-row g c =
     let bytes = c.args.bytes.now in
     let n = c.args.header.now.n in
     let i = c.loop-i.i in
     let table = table_at g.K.Kind.means bytes c.args.header.now.kind in
-    let p = err_from_is_err_and c.from-residual.result c.from-residual.ensures.1 in
-    let here = unless_err (first_wrong (table i)) (entry_in bytes i) c.in-err-row.field-0.0 c.in-err-row.ensures in
-    rw (p.1, p.2) (sym (ap (λ o. unless o (row_in bytes n)) (wrong_stops table i n c.in-err-row.field-0.0 c.loop-i-test.true c.loop-i.invariant.0 here)))
+    let p = err_from_is_err_and c.from_residual.result c.from_residual.ensures.1 in
+    let here = unless_err (first_wrong (table i)) (entry_in bytes i) c.in_err-row.field-0.0 c.in_err-row.ensures in
+    rw (p.1, p.2) (sym (ap (λ o. unless o (row_in bytes n)) (wrong_stops table i n c.in_err-row.field-0.0 c.loop-i-test.true c.loop-i.invariant.0 here)))
 
 pub loop-i-preserved : goal.loop-i-preserved
 loop-i-preserved g c =
     let bytes = c.args.bytes.now in
     let i = c.loop-i.i in
     let table = table_at g.K.Kind.means bytes c.args.header.now.kind in
-    let here = unless_ok (first_wrong (table i)) (entry_in bytes i) c.in-ok-row.field-0 c.in-ok-row.ensures in
+    let here = unless_ok (first_wrong (table i)) (entry_in bytes i) c.in_ok-row.field-0 c.in_ok-row.ensures in
     let few = c.args.header.now.few in
-    (wrong_more table i c.loop-i.invariant.0 here.0, row_more bytes c.loop-i.row.entries i c.in-ok-row.field-0 (omega arith) c.loop-i.invariant.1 here.1)
+    (wrong_more table i c.loop-i.invariant.0 here.0, row_more bytes c.loop-i.row.entries i c.in_ok-row.field-0 (omega arith) c.loop-i.invariant.1 here.1)

@@ -14,9 +14,9 @@ pub returns : goal.returns
 returns c =
     let h = c.args.header.now in
     let es = c.args.row.now.entries in
-    let ends = c.place-of-2.ensures in
+    let ends = c.place_of-2.ensures in
     record {
       length = ends;
       whole = ends ∙ sym (length-laid_out (heading_of h) (take h.n es) ∙ ap (λ k. 4 + 12 * k) (length-take-le h.n es (omega arith)));
-      buffer = partly_all (heading_of h) c.args.out.now c.write_header.new.out c.loop-i.out es c.loop-i.i h.n c.place-of-2.result c.write_header.ensures (omega arith) ends c.loop-i.invariant.0;
+      buffer = partly_all (heading_of h) c.args.out.now c.write_header.new.out c.loop-i.out es c.loop-i.i h.n c.place_of-2.result c.write_header.ensures (omega arith) ends c.loop-i.invariant.0;
     }

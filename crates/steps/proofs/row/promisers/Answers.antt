@@ -5,4 +5,4 @@ use Rattle.steps.proofs.row.promisers.Goals as goal
 pub loop-i-preserved : goal.loop-i-preserved
 loop-i-preserved c =
     marked_more (λ j. (entry_at c.args.row.now.entries j).promise) _ c.loop-i.promising _ c.loop-i.i _ c.loop-i.invariant c.promises.ensures
-    c.with-if-promising.ensures
+    c.with_if-promising.ensures
