@@ -8,7 +8,7 @@ returns g c =
     let laws = g.met.Q.QuorumRule.lawful in
     let says = c.enough.ensures in
     record {
-      0 = says;
+      value = says;
       settled = λ yes codes L a b d v w kept votes x least. settled kept laws (sym says ∙ yes) votes x least;
       agreed = λ codes L M r s b d v w kept on x y. shown_agree kept laws (shown_onward on x) y;
       handed = λ codes L a b v kept x. cast_handed kept x;

@@ -69,7 +69,7 @@ impl<K: Kind, Q: QuorumRule, P: Post, S: Store> Register<K, Q, P, S> {
 
 // Takes the k-th item for q. Its frame lies within the buffer.
 fn take_frame<P: Post>(post: &mut P, q: usize, k: usize, buffer: &mut [u8; 88]) -> Option<usize>
-    ensures takes { Takes means post.old q k buffer.old result post.new buffer.new }
+    ensures takes { Takes P.Post.means post.old q k buffer.old result post.new buffer.new }
     ensures within { IfSome result (λ len. len ≤ 88) }
 {
     post.take(q, k, buffer)

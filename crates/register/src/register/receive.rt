@@ -5,7 +5,7 @@ ghost use Rattle.frames.specs.Reading.{ForUs};
 ghost use Rattle.frames.specs.Sorts.{well_addressed};
 ghost use Rattle.frames.specs.declared.sort.Sort.TheVariants.{Ack};
 ghost use Rattle.model.specs.Entries.{is_entry};
-ghost use Rattle.model.specs.Sets.{single as mask-of-one};
+ghost use Rattle.model.specs.Sets.{single as mask_of_one};
 ghost use Rattle.std.specs.List.{AllByRecursion as All};
 ghost use Rattle.machine.specs.Board.{makes};
 ghost use Rattle.machine.specs.Showing.{ShowsNoLess};
@@ -119,7 +119,7 @@ impl<K: Kind, Q: QuorumRule, P: Post, S: Store> Register<K, Q, P, S> {
 // The sender alone, as the addressees of an ack.
 fn answer_to(n: usize, q: usize, sender: usize) -> u8
     requires { (n ≤ 7) × ((q < n) × ((sender < n) × ((sender ≢ q)))) }
-    ensures value { result ≡ mask-of-one sender }
+    ensures value { result ≡ mask_of_one sender }
     ensures addressed { well_addressed Ack n q result ≡ true }
 {
     single(sender)

@@ -11,7 +11,7 @@ returns-in-Ok c =
     let bench = c.args.self.now in
     let after = c.accept.new.rows in
     let y : Place = board c.accept.new.self (vec_items (with_items bench.rows after)) c.accept.new.store c.accept.new.post in
-    accepted (bench_board bench) y c.as-mut-slice.result.now after c.as-mut-slice.ensures.value (with_items_is bench.rows after (omega arith))
+    accepted (bench_board bench) y c.as_mut_slice.result.now after c.as_mut_slice.ensures.value (with_items_is bench.rows after (omega arith))
     c.args.round c.args.glyph (Ok c.in-Ok.answer) c.in-Ok.ensures.does
 
 pub returns-in-Err : goal.returns-in-Err
@@ -19,6 +19,6 @@ returns-in-Err c =
     let bench = c.args.self.now in
     let after = c.accept.new.rows in
     let y : Place = board c.accept.new.self (vec_items (with_items bench.rows after)) c.accept.new.store c.accept.new.post in
-    let back = accepted (bench_board bench) y c.as-mut-slice.result.now after c.as-mut-slice.ensures.value (with_items_is bench.rows after (omega arith))
+    let back = accepted (bench_board bench) y c.as_mut_slice.result.now after c.as_mut_slice.ensures.value (with_items_is bench.rows after (omega arith))
     c.args.round c.args.glyph (Err c.in-Err.refused) c.in-Err.ensures.does in
     (refl, back.1)

@@ -12,5 +12,5 @@ returns c =
     let bench = c.args.self.now in
     let after = c.deliver.new.rows in
     let y : Place = board c.deliver.new.self (vec_items (with_items bench.rows after)) c.deliver.new.store c.deliver.new.post in
-    settled (bench_board bench) y c.as-mut-slice.result.now after c.as-mut-slice.ensures.value (with_items_is bench.rows after (omega arith))
+    settled (bench_board bench) y c.as_mut_slice.result.now after c.as_mut_slice.ensures.value (with_items_is bench.rows after (omega arith))
     (λ u v. Delivers our_makes u c.args.q c.args.k c.args.buffer.now c.deliver.result v c.deliver.new.buffer) c.deliver.ensures.does

@@ -12,5 +12,5 @@ returns c =
     let bench = c.args.self.now in
     let after = c.restart.new.rows in
     let y : Place = board c.restart.new.self (vec_items (with_items bench.rows after)) bench.page bench.line in
-    settled (bench_board bench) y c.as-mut-slice.result.now after c.as-mut-slice.ensures.value (with_items_is bench.rows after (omega arith))
+    settled (bench_board bench) y c.as_mut_slice.result.now after c.as_mut_slice.ensures.value (with_items_is bench.rows after (omega arith))
     (λ u v. Does our_makes u (restart c.args.p c.restart.result) v) (c.restart.ensures, refl, refl)

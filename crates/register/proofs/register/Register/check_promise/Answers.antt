@@ -22,9 +22,9 @@ returns g c =
     let ok : is_entry own ≡ true = subst (λ e. is_entry e ≡ true) (sym is) (clean_is_entry (get_or row p (record { promise = pos 0; vote = pos 0; code = 0 }))) in
     let wide : to_z w32 (of_z w32 b) ≡ b = to_z-of_z w32 b c.ranges.b in
     let mine : owns n p b ≡ true
-    = subst (λ z. owns n p z ≡ true) wide (sym c.owns.ensures ∙ went_on c.owns.result c.fault.result c.check.result c.check.ensures c.in-ok-check.was) in
+    = subst (λ z. owns n p z ≡ true) wide (sym c.owns.ensures ∙ went_on c.owns.result c.fault.result c.check.result c.check.ensures c.in_ok-check.was) in
     let above : lt_z own.promise b ≡ true
-    = sym (in_words lt_z own.promise b (fits own ok).0 c.ranges.b) ∙ went_on _ c.fault-2.result c.check-2.result c.check-2.ensures c.in-ok-check-2.was in
+    = sym (in_words lt_z own.promise b (fits own ok).0 c.ranges.b) ∙ went_on _ c.fault-2.result c.check-2.result c.check-2.ensures c.in_ok-check-2.was in
     let next = c.promising.ensures ∙ ap (promising own) wide in (
       passed (demand (owns n p b) not_its_ballot) (demand (lt_z (entry_at row p).promise b) promised_already) (passes_none (owns n p b) not_its_ballot mine) ∙ passes_none (lt_z (entry_at row p).promise b) promised_already (subst (λ e. lt_z e.promise b ≡ true) is above),
       (

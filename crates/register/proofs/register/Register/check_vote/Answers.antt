@@ -21,11 +21,11 @@ returns g c =
     let ok : is_entry own ≡ true = subst (λ e. is_entry e ≡ true) (sym is) (clean_is_entry (get_or row p (record { promise = pos 0; vote = pos 0; code = 0 }))) in
     let wide : to_z w32 (of_z w32 b) ≡ b = to_z-of_z w32 b c.ranges.b in
     let mine : owns n p b ≡ true
-    = subst (λ z. owns n p z ≡ true) wide (sym c.owns.ensures ∙ went_on c.owns.result c.fault.result c.check.result c.check.ensures c.in-ok-check.was) in
+    = subst (λ z. owns n p z ≡ true) wide (sym c.owns.ensures ∙ went_on c.owns.result c.fault.result c.check.result c.check.ensures c.in_ok-check.was) in
     let promised-b : same_ballot (entry_at row p).promise b ≡ true
-    = sym (λ i. same_ballot (is i).promise (wide i)) ∙ sym c.has_promised.ensures ∙ went_on c.has_promised.result c.fault-2.result c.check-2.result c.check-2.ensures c.in-ok-check-2.was in
+    = sym (λ i. same_ballot (is i).promise (wide i)) ∙ sym c.has_promised.ensures ∙ went_on c.has_promised.result c.fault-2.result c.check-2.result c.check-2.ensures c.in_ok-check-2.was in
     let not-voted : not (same_ballot (entry_at row p).vote b) ≡ true
-    = sym (λ i. not (same_ballot (is i).vote (wide i))) ∙ sym (ap not c.has_voted.ensures) ∙ went_on (not c.has_voted.result) c.fault-3.result c.check-3.result c.check-3.ensures c.in-ok-check-3.was in
+    = sym (λ i. not (same_ballot (is i).vote (wide i))) ∙ sym (ap not c.has_voted.ensures) ∙ went_on (not c.has_voted.result) c.fault-3.result c.check-3.result c.check-3.ensures c.in_ok-check-3.was in
     let seven : min n 7 ≡ n = let few = c.args.self.now.few in omega arith in
     let suffices : c.promises.result ≡ g.Q.QuorumRule.means.promises c.args.self.now.rule (promised row n b)
     = c.promises.ensures ∙ ap (g.Q.QuorumRule.means.promises c.args.self.now.rule) (λ i j. ((c.promisers-promising.ensures j) ∙ (λ k. promised row (seven k) (wide k) j)) i) in

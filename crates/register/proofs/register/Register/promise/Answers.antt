@@ -14,8 +14,8 @@ use Rattle.register.proofs.register.Register.promise.Goals as goal
 
 pub announce-requires : goal.announce-requires
 announce-requires g c =
-    let here = c.in-ok-place.ensures.1 in
-    (here.participant, (here.cell, (here.all, (c.in-ok-next.ensures.1.1, eq-eqb (all_but c.args.self.now.n c.args.p) _ refl))))
+    let here = c.in_ok-place.ensures.1 in
+    (here.participant, (here.cell, (here.all, (c.in_ok-next.ensures.1.1, eq-eqb (all_but c.args.self.now.n c.args.p) _ refl))))
 
 pub returns : goal.returns
 returns g c =
@@ -24,13 +24,13 @@ returns g c =
     let b = c.args.b in
     let rows = c.args.rows.now in
     let t = table c.args.self.now rows in
-    let here = c.in-ok-place.ensures in
-    let next = c.in-ok-next.ensures in
+    let here = c.in_ok-place.ensures in
+    let next = c.in_ok-next.ensures in
     let at = here.1.row in
     let wide : to_z w32 (of_z w32 b) ≡ b = to_z-of_z w32 b c.ranges.b in
     let free : promise_fault n (row_of t p c.args.c) p b ≡ None = sym (λ i. promise_fault n (row_at rows (at i)) p (wide i)) ∙ next.0 in
     let made = next.1.0 ∙ (λ i. promising (entry_at (row_at rows (at i)) p) (wide i)) in (
       passed (cell_door t p c.args.c) (promise_fault n (row_of t p c.args.c) p b) here.0 ∙ free,
       (λ i. record { p = c.new.ensures.0 i; c = c.new.ensures.1 i; b = (c.new.ensures.2 ∙ wide) i }),
-      subst (λ e. Announced (makes g.K.Kind.means g.Q.QuorumRule.means g.P.Post.means g.S.Store.means) (board c.args.self.now rows c.args.store.now c.args.post.now) Prepare p c.args.c e c.in-ok-kept.kept (board c.announce.new.self c.announce.new.rows c.announce.new.store c.announce.new.post)) made c.in-ok-kept.ensures,
+      subst (λ e. Announced (makes g.K.Kind.means g.Q.QuorumRule.means g.P.Post.means g.S.Store.means) (board c.args.self.now rows c.args.store.now c.args.post.now) Prepare p c.args.c e c.in_ok-kept.kept (board c.announce.new.self c.announce.new.rows c.announce.new.store c.announce.new.post)) made c.in_ok-kept.ensures,
     )

@@ -8,5 +8,5 @@ returns g c =
     received (makes g.K.Kind.means g.Q.QuorumRule.means g.P.Post.means g.S.Store.means)
     (board c.args.self.now c.args.rows.now c.args.store.now c.args.post.now)
     (board c.take_over.new.self c.take_over.new.rows c.take_over.new.store c.take_over.new.post)
-    c.args.q c.args.frame.now c.in-ok-frame.frame c.take_over.result
-    c.in-ok-check-participant.ensures.0 c.in-ok-frame.ensures.reads c.take_over.ensures
+    c.args.q c.args.frame.now c.in_ok-frame.frame c.take_over.result
+    c.in_ok-check_participant.ensures.0 c.in_ok-frame.ensures.reads c.take_over.ensures

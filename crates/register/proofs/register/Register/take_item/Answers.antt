@@ -13,7 +13,7 @@ returns g c =
     let y = board c.take_in.new.self c.take_in.new.rows c.take_in.new.store c.take_in.new.post in
     delivered m x y c.args.q c.args.k c.args.buffer.now c.take_frame.new.buffer c.take_in.result
     (record {
-      open_door = c.in-ok-check-participant.ensures.0;
+      open_door = c.in_ok-check_participant.ensures.0;
       long = c.in-Some.len;
       post = c.take_frame.new.post;
       takes = c.in-Some.ensures.takes;

@@ -17,10 +17,10 @@ use Rattle.register.proofs.register.Register.vote.Goals as goal
 
 pub announce-requires : goal.announce-requires
 announce-requires g c =
-    let here = c.in-ok-place.ensures.1 in
+    let here = c.in_ok-place.ensures.1 in
     let n = c.args.self.now.n in
     let p = c.args.p in
-    let mine = c.in-ok-check-vote.ensures.1 in
+    let mine = c.in_ok-check_vote.ensures.1 in
     let small = g.met.K.Kind.lawful.fits c.carried-value.result in
     let next = c.voting-next.ensures ∙ ap (voting (to_z w32 (of_z w32 c.args.b))) c.code.ensures in (
       here.participant,
@@ -36,8 +36,8 @@ announce-requires g c =
       ),
     )
 
-pub returns-in-err-kept : goal.returns-in-err-kept
-returns-in-err-kept g c =
+pub returns-in_err-kept : goal.returns-in_err-kept
+returns-in_err-kept g c =
     let n = c.args.self.now.n in
     let p = c.args.p in
     let b = c.args.b in
@@ -46,18 +46,18 @@ returns-in-err-kept g c =
     let m = makes g.K.Kind.means g.Q.QuorumRule.means g.P.Post.means g.S.Store.means in
     let x = board c.args.self.now rows c.args.store.now c.args.post.now in
     let y = board c.announce.new.self c.announce.new.rows c.announce.new.store c.announce.new.post in
-    let here = c.in-ok-place.ensures in
+    let here = c.in_ok-place.ensures in
     let at = here.1.row in
     let wide : to_z w32 (of_z w32 b) ≡ b = to_z-of_z w32 b c.ranges.b in
-    let may = c.in-ok-check-vote.ensures.0 in
+    let may = c.in_ok-check_vote.ensures.0 in
     let free = sym (λ i. vote_fault g.Q.QuorumRule.means c.args.self.now.rule n (row_at rows (at i)) p (wide i)) ∙ may in
     let v = c.carried-value.result in
     let seven : min n 7 ≡ n = let few = c.args.self.now.few in omega arith in
     let carries : Carries g.K.Kind.means (row_of t p c.args.c) n c.args.v v
     = subst (λ k. Carries g.K.Kind.means (row_of t p c.args.c) k c.args.v v) seven (subst (λ k. Carries g.K.Kind.means (row_at rows k) (min n 7) c.args.v v) at c.carried-value.ensures) in
     let made = c.voting-next.ensures ∙ (λ i. voting (wide i) (c.code.ensures i)) in
-    let out = err_from_is_err_and c.from-residual-in-err-kept.result c.from-residual-in-err-kept.ensures.1 in
-    let stopped = subst (λ e. Stopped m x p (place_of t p c.args.c) e c.in-err-kept.field-0.0 y) made c.in-err-kept.ensures in
+    let out = err_from_is_err_and c.from_residual-in_err-kept.result c.from_residual-in_err-kept.ensures.1 in
+    let stopped = subst (λ e. Stopped m x p (place_of t p c.args.c) e c.in_err-kept.field-0.0 y) made c.in_err-kept.ensures in
     subst (λ r. Votes m x p c.args.c b c.args.v r y) (sym (out.1 ∙ ap Err out.2))
     (inr (passed (cell_door t p c.args.c) (vote_fault g.Q.QuorumRule.means c.args.self.now.rule n (row_of t p c.args.c) p b) here.0 ∙ free, (v, carries, stopped)))
 
@@ -71,10 +71,10 @@ returns g c =
     let m = makes g.K.Kind.means g.Q.QuorumRule.means g.P.Post.means g.S.Store.means in
     let x = board c.args.self.now rows c.args.store.now c.args.post.now in
     let y = board c.announce.new.self c.announce.new.rows c.announce.new.store c.announce.new.post in
-    let here = c.in-ok-place.ensures in
+    let here = c.in_ok-place.ensures in
     let at = here.1.row in
     let wide : to_z w32 (of_z w32 b) ≡ b = to_z-of_z w32 b c.ranges.b in
-    let may = c.in-ok-check-vote.ensures.0 in
+    let may = c.in_ok-check_vote.ensures.0 in
     let free = sym (λ i. vote_fault g.Q.QuorumRule.means c.args.self.now.rule n (row_at rows (at i)) p (wide i)) ∙ may in
     let v = c.carried-value.result in
     let seven : min n 7 ≡ n = let few = c.args.self.now.few in omega arith in
@@ -83,5 +83,5 @@ returns g c =
     let made = c.voting-next.ensures ∙ (λ i. voting (wide i) (c.code.ensures i)) in (
       passed (cell_door t p c.args.c) (vote_fault g.Q.QuorumRule.means c.args.self.now.rule n (row_of t p c.args.c) p b) here.0 ∙ free,
       carries,
-      subst (λ e. Announced m x Accept p c.args.c e c.in-ok-kept.kept y) made c.in-ok-kept.ensures,
+      subst (λ e. Announced m x Accept p c.args.c e c.in_ok-kept.kept y) made c.in_ok-kept.ensures,
     )

@@ -8,4 +8,4 @@ pub returns : goal.returns
 returns c =
     let p = c.requires in
     let is = ack_addressed c.args.n c.args.q c.args.sender p.0 p.1.0 p.1.1.0 p.1.1.1 in
-    record { value = c.single.ensures.0; addressed = subst (λ m. well_addressed Ack c.args.n c.args.q m ≡ true) (sym c.single.ensures.0) is }
+    record { value = c.single.ensures.value; addressed = subst (λ m. well_addressed Ack c.args.n c.args.q m ≡ true) (sym c.single.ensures.value) is }
