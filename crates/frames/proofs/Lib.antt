@@ -3,3 +3,4 @@ pub mod Layouts
 pub mod ReadBack
 pub mod Readings
 pub mod Spelling
+mod TableLaws

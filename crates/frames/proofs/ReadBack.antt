@@ -1,5 +1,5 @@
 -- What is laid out reads back without a fault. Assumes nothing.
-use Rattle.std.proofs.Common.{◌≡◌, ℕ, zero, suc, ◌+◌, ◌*◌, ◌/◌, ◌%◌, ◌<◌, Bool, true, false, cond, not, ◌&&◌, ◌||◌, eqb, ltb, leb, List, [], ◌∷◌, ◌++◌, map, length, get_or, take, drop, pos, is_some, Some, None, Ok, Err, Option, Result, unwrap_or, sym, refl, ap, ◌∙◌, arith}
+use Rattle.std.proofs.Common.{◌≡◌, ℕ, zero, suc, ◌+◌, ◌*◌, ◌/◌, ◌%◌, ◌<◌, Bool, true, false, not, ◌&&◌, ◌||◌, eqb, ltb, leb, List, [], ◌∷◌, ◌++◌, map, length, get_or, take, drop, pos, is_some, Some, None, Ok, Err, Option, Result, unwrap_or, sym, refl, ap, ◌∙◌, arith}
 use lib.Signed.{lt_z}
 use Rattle.std.specs.List.{flat_map, AllByRecursion as All}
 use Rattle.std.proofs.lemmas.List.FromFn.{fill_by_all}
@@ -18,11 +18,10 @@ use Rattle.frames.specs.declared.reader.Frame.{Frame}
 use Rattle.frames.specs.declared.sort.Sort.{Sort}
 use Rattle.frames.specs.declared.sort.Sort.TheVariants.{Prepare, Accept, Ack}
 use Rattle.frames.specs.Layout.{Heading, Sound, heading_in, four_bytes, entry_bytes, laid_out, entry_in, entries_in}
-use Rattle.frames.specs.Reading.{valued, first_fault, ForUs, Reads, Complete, ReadsBack, Answered}
-use Rattle.frames.specs.Tables.{first_wrong, header_table, entry_table, code_counts, table_at, row_table, address_table}
+use Rattle.frames.specs.Reading.{demand, or_else, header_fault, entry_fault, first_of, code_counts, fault_at, address_fault, valued, first_fault, ForUs, Reads, Complete, ReadsBack, Answered}
 use Rattle.frames.specs.Sorts.{sort_number, sort_of, well_addressed}
 use Rattle.frames.proofs.Layouts.{length-written, length-laid_out}
-use Rattle.frames.proofs.Readings.{or_else, wrong_none, in_parts, row_front}
+use Rattle.frames.proofs.Readings.{row_front}
 
 -- the two halves of the first byte
 sort_back : (s : Sort) (n : ℕ) → n < 16 → sort_of ((sort_number s * 64 + 16 + n) / 64) ≡ Some s
@@ -63,11 +62,14 @@ pub clean_all : (es : List Entry) → All (λ e. is_entry e ≡ true) es → map
 clean_all [] ok = refl
 clean_all (e ∷ es) ok = λ i. clean_same e ok.0 i ∷ clean_all es ok.1 i
 
--- a row that holds leaves those after it
-clear : {t : Bool} {later : Option ReaderFault} (fault : ReaderFault) → t ≡ true → later ≡ None → cond t later (Some fault) ≡ None
-clear fault p q = λ i. cond (p i) (q i) (Some fault)
+-- a check that passes leaves those after it
+clear : {t : Bool} {later : Option ReaderFault} (fault : ReaderFault) → t ≡ true → later ≡ None → or_else (demand t fault) later ≡ None
+clear fault p q = λ i. or_else (demand (p i) fault) (q i)
 
-header_clear : (h : Heading) (es : List Entry) → Sound h → length es ≡ h.n → first_wrong (header_table (laid_out h es)) ≡ None
+last : {t : Bool} (fault : ReaderFault) → t ≡ true → demand t fault ≡ None
+last fault p = ap (λ t. demand t fault) p
+
+header_clear : (h : Heading) (es : List Entry) → Sound h → length es ≡ h.n → header_fault (laid_out h es) ≡ None
 unfolding laid_out
 header_clear h es is long =
     let some = is.some in
@@ -81,35 +83,40 @@ header_clear h es is long =
     (clear _ (ap (λ (g : Heading). leb 2 g.n && leb g.n 7) back ∙ and_from _ _ (le-leb 2 h.n some) (le-leb h.n 7 few))
     (clear _ (ap (λ (g : Heading). eqb (length (laid_out h es)) (4 + 12 * g.n)) back ∙ eq-eqb _ _ whole)
     (clear _ (ap (λ (g : Heading). ltb g.sender g.n) back ∙ lt-ltb _ _ is.sent)
-    (clear _ (ap (λ (g : Heading). well_addressed g.sort g.n g.sender g.to) back ∙ is.addressed) refl))))))
+    (last _ (ap (λ (g : Heading). well_addressed g.sort g.n g.sender g.to) back ∙ is.addressed)))))))
 
 wider : (a b c : Bool) → (a || b) ≡ true → (a || (c || b)) ≡ true
 wider true b c is = refl
 wider false b true is = refl
 wider false b false is = is
 
-entry_clear : (counts : Bool) (e : Entry) (place : ℕ) → is_entry e ≡ true → (lt_z e.vote (pos 0) || counts) ≡ true → first_wrong (entry_table counts e place) ≡ None
-entry_clear counts e place ok counted = let is = proper e ok in clear _ is.within (clear _ is.coded (clear _ counted refl))
+first_of_clear : (check : ℕ → Option ReaderFault) (n : ℕ) → ((i : ℕ) → i < n → check i ≡ None) → first_of check n ≡ None
+first_of_clear check zero each = refl
+first_of_clear check (suc k) each = let front = first_of_clear check k (λ i lt. each i (omega arith)) in λ i. or_else (front i) (each k (omega arith) i)
+
+entry_clear : (counts : Bool) (e : Entry) (place : ℕ) → is_entry e ≡ true → (lt_z e.vote (pos 0) || counts) ≡ true → entry_fault counts e place ≡ None
+entry_clear counts e place ok counted = let is = proper e ok in clear _ is.within (clear _ is.coded (last _ counted))
 
 module _ {V : Type 0} (m : KindMeaning V) where
   counted : (kind : ℕ) (e : Entry) → valued m e ≡ true → (lt_z e.vote (pos 0) || code_counts m kind e.code) ≡ true
   counted kind e is = wider (lt_z e.vote (pos 0)) (is_some (m.value e.code)) (not (eqb kind m.number)) is
 
-  address_clear : (h : Heading) (n cells q : ℕ) → ForUs m h n cells q → first_wrong (address_table m h n cells q) ≡ None
-  address_clear h n cells q us = clear _ (eq-eqb _ _ us.same_n) (clear _ (eq-eqb _ _ us.same_kind) (clear _ us.addressed (clear _ (lt-ltb _ _ us.within) refl)))
+  address_clear : (h : Heading) (n cells q : ℕ) → ForUs m h n cells q → address_fault m h n cells q ≡ None
+  address_clear h n cells q us = clear _ (eq-eqb _ _ us.same_n) (clear _ (eq-eqb _ _ us.same_kind) (clear _ us.addressed (last _ (lt-ltb _ _ us.within))))
 
   pub faultless : (h : Heading) (es : List Entry) (n cells q : ℕ) → Sound h → ForUs m h n cells q → Complete m n es → first_fault m (laid_out h es) n cells q ≡ None
+  unfolding first_fault
   faultless h es n cells q is us all =
       let bytes = laid_out h es in
       let long : length es ≡ h.n = all.long ∙ sym us.same_n in
-      let at : (i : ℕ) → i < h.n → first_wrong (table_at m bytes h.kind i) ≡ None = λ i lt.
+      let at : (i : ℕ) → i < h.n → fault_at m bytes h.kind i ≡ None = λ i lt.
       let in_row : i < length es = omega arith in
       let e = get_or es i none in
       let value = All-get_or (λ e. valued m (clean e) ≡ true) es i none in_row all.counts in
-      ap (λ (e : Entry). first_wrong (entry_table (code_counts m h.kind e.code) e (4 + 12 * i))) (entry_back h es i in_row) ∙ entry_clear _ (clean e) (4 + 12 * i) (clean_is_entry e) (counted h.kind (clean e) value) in
-      let rows = wrong_none (table_at m bytes h.kind) h.n at in
+      ap (λ (e : Entry). entry_fault (code_counts m h.kind e.code) e (4 + 12 * i)) (entry_back h es i in_row) ∙ entry_clear _ (clean e) (4 + 12 * i) (clean_is_entry e) (counted h.kind (clean e) value) in
+      let rows = first_of_clear (fault_at m bytes h.kind) h.n at in
       let back = heading_back h es is in
-      in_parts m bytes n cells q ∙ (λ i. or_else (header_clear h es is long i) (or_else (first_wrong (row_table m bytes (back i).kind (back i).n)) (first_wrong (address_table m (back i) n cells q)))) ∙ (λ i. or_else (rows i) (address_clear h n cells q us i))
+      (λ i. or_else (header_clear h es is long i) (or_else (first_of (fault_at m bytes (back i).kind) (back i).n) (address_fault m (back i) n cells q))) ∙ (λ i. or_else (rows i) (address_clear h n cells q us i))
 
   -- so reading answers with the same header and the same entries
   reads_back : (bytes : List ℕ) (n cells q : ℕ) (r : Result Frame ReaderFault) → Reads m bytes n cells q r → ReadsBack m bytes n cells q r

@@ -20,10 +20,9 @@ use Rattle.model.proofs.Proper.{clean_same}
 use Rattle.frames.specs.declared.header.Header.{Header}
 use Rattle.frames.specs.declared.sort.Sort.TheVariants.{Ack}
 use Rattle.frames.specs.Layout.{edition, heading_of, heading_in, four_bytes, entry_bytes, laid_out, entry_in, entries_in}
-use Rattle.frames.specs.Reading.{unless, HeaderRead, row_in, valued, first_fault, Spells}
-use Rattle.frames.specs.Tables.{first_wrong, header_table, entry_table, code_counts, table_at, row_table, address_table}
+use Rattle.frames.specs.Reading.{or_else, unless, header_fault, HeaderRead, entry_fault, first_of, row_in, code_counts, fault_at, address_fault, valued, first_fault, Spells}
 use Rattle.frames.specs.Sorts.{sort_number, sort_of}
-use Rattle.frames.proofs.Readings.{or_else, passes, right_entry, right_address, wrong_none_at, in_parts, unless_ok, row_front}
+use Rattle.frames.proofs.Readings.{passes, right_entry, right_address, first_of_at, unless_ok, row_front}
 
 below : (k : ℕ) (bs : List ℕ) → length bs ≡ k → AllBelowBase 256 bs → number_from_digits 256 bs < 256 ^ k
 below k bs long small = subst (λ j. number_from_digits 256 bs < 256 ^ j) long (number_lt 256 bs small)
@@ -38,7 +37,7 @@ to_top zero fits = refl
 to_top (suc b) fits = le-leb b 16777214 (omega arith)
 
 -- twelve bytes without a fault spell an entry
-spelled_proper : (bs : List ℕ) (counts : Bool) (place : ℕ) → length bs ≡ 12 → AllBelowBase 256 bs → first_wrong (entry_table counts (spelled bs) place) ≡ None → is_entry (spelled bs) ≡ true
+spelled_proper : (bs : List ℕ) (counts : Bool) (place : ℕ) → length bs ≡ 12 → AllBelowBase 256 bs → entry_fault counts (spelled bs) place ≡ None → is_entry (spelled bs) ≡ true
 unfolding spelled
 spelled_proper bs counts place long small right =
     let Small = λ (d : ℕ). d < 256 in
@@ -54,7 +53,7 @@ number_of_sort k is = grind (arith, nat_tests)
 first_byte : (a s : ℕ) → s ≡ a / 64 → a / 16 % 4 ≡ edition → s * 64 + edition * 16 + a % 16 ≡ a
 first_byte a s sort edited = omega arith
 
-four_spelled : (bytes : List ℕ) → first_wrong (header_table bytes) ≡ None → four_bytes (heading_in bytes) ≡ take 4 bytes
+four_spelled : (bytes : List ℕ) → header_fault bytes ≡ None → four_bytes (heading_in bytes) ≡ take 4 bytes
 four_spelled [] clear = cc
 four_spelled (a ∷ []) clear = cc
 four_spelled (a ∷ b ∷ []) clear = cc
@@ -84,7 +83,7 @@ module _ (bytes : List ℕ) (n : ℕ) (long : length bytes ≡ 4 + 12 * n) (smal
       ap (flat_map entry_bytes) more ∙ sym (flat_map_more entry_bytes [] (entries_in bytes k) e) ∙ (λ i. entries_spelled proper k (omega arith) i ++ last i) ∙ sym (take-add (12 * k) 12 (drop 4 bytes)) ∙ ap (λ j. take j (drop 4 bytes)) next
 
   -- the frame that the bytes spell is laid out as those bytes
-  laid_out_spelled : first_wrong (header_table bytes) ≡ None → ((i : ℕ) → i < n → is_entry (entry_in bytes i) ≡ true) → laid_out (heading_in bytes) (entries_in bytes n) ≡ bytes
+  laid_out_spelled : header_fault bytes ≡ None → ((i : ℕ) → i < n → is_entry (entry_in bytes i) ≡ true) → laid_out (heading_in bytes) (entries_in bytes n) ≡ bytes
   unfolding laid_out
   laid_out_spelled right proper =
       let rest : flat_map entry_bytes (entries_in bytes n) ≡ drop 4 bytes = entries_spelled proper n (omega arith) ∙ take_all (12 * n) (drop 4 bytes) (omega (arith, length-drop 4 bytes)) in
@@ -104,7 +103,8 @@ module _ {V : Type 0} (m : KindMeaning V) where
   counts_ours kind e ours is = simp (eq-eqb kind m.number ours) at is
 
   -- what reading gives where every part reads without a fault
-  pub spells : (bytes : List ℕ) (n cells q : ℕ) (header : Header) (row : Row) → AllBelowBase 256 bytes → HeaderRead bytes (Ok header) → Ok row ≡ unless (first_wrong (row_table m bytes header.kind header.n)) (row_in bytes header.n) → Ok (tt {0}) ≡ unless (first_wrong (address_table m (heading_of header) n cells q)) (tt {0}) → Spells m bytes n cells q (record { header = header; row = row })
+  pub spells : (bytes : List ℕ) (n cells q : ℕ) (header : Header) (row : Row) → AllBelowBase 256 bytes → HeaderRead bytes (Ok header) → Ok row ≡ unless (first_of (fault_at m bytes header.kind) header.n) (row_in bytes header.n) → Ok (tt {0}) ≡ unless (address_fault m (heading_of header) n cells q) (tt {0}) → Spells m bytes n cells q (record { header = header; row = row })
+  unfolding first_fault
   spells bytes n cells q header row small head body us =
       let heading = head.1 in
       let clear = (unless_ok _ _ _ body).0 in
@@ -113,13 +113,13 @@ module _ {V : Type 0} (m : KindMeaning V) where
       let same = ours.same_n in
       let is : row ≡ row_in bytes n = (unless_ok _ _ _ body).1 ∙ ap (row_in bytes) same in
       let long : length bytes ≡ 4 + 12 * n = head.2 ∙ ap (λ k. 4 + 12 * k) same in
-      let at : (i : ℕ) → i < n → first_wrong (table_at m bytes header.kind i) ≡ None = wrong_none_at (table_at m bytes header.kind) n (subst (λ k. first_wrong (row_table m bytes header.kind k) ≡ None) same clear) in
+      let at : (i : ℕ) → i < n → fault_at m bytes header.kind i ≡ None = λ i lt. first_of_at (fault_at m bytes header.kind) n (subst (λ k. first_of (fault_at m bytes header.kind) k ≡ None) same clear) i lt in
       let proper : (i : ℕ) → i < n → is_entry (entry_in bytes i) ≡ true = λ i lt. spelled_proper _ _ _ (part_long bytes n long small i lt) (part_small bytes n long small i) (at i lt) in
       let counts : (i : ℕ) → i < n → valued m (entry_in bytes i) ≡ true = λ i lt. counts_ours header.kind (entry_in bytes i) ours.same_kind (right_entry _ (entry_in bytes i) _ (at i lt)).counted in
       let front : take n row.entries ≡ entries_in bytes n = ap (λ (r : Row). take n r.entries) is ∙ row_front bytes n in
-      let rest : first_fault m bytes n cells q ≡ or_else (first_wrong (row_table m bytes header.kind header.n)) (first_wrong (address_table m (heading_of header) n cells q)) = in_parts m bytes n cells q ∙ (λ i. or_else (head.0 i) (or_else (first_wrong (row_table m bytes (sym heading i).kind (sym heading i).n)) (first_wrong (address_table m (sym heading i) n cells q)))) in
+      let rest : first_fault m bytes n cells q ≡ or_else (first_of (fault_at m bytes header.kind) header.n) (address_fault m (heading_of header) n cells q) = (λ i. or_else (head.0 i) (or_else (first_of (fault_at m bytes (sym heading i).kind) (sym heading i).n) (address_fault m (sym heading i) n cells q))) in
       record {
-        faultless = rest ∙ ap (λ o. or_else o (first_wrong (address_table m (heading_of header) n cells q))) clear ∙ address;
+        faultless = rest ∙ ap (λ o. or_else o (address_fault m (heading_of header) n cells q)) clear ∙ address;
         heading = heading;
         row = is;
         only_so = sym ((λ i. laid_out (heading i) (front i)) ∙ laid_out_spelled bytes n long small head.0 proper);

@@ -1,5 +1,5 @@
 -- What has to hold of a frame: a table in the order of the layout, each row with the fault where it does not hold. Assumes nothing.
-use Rattle.std.specs.Prelude.{ℕ, ◌+◌, ◌*◌, ◌/◌, ◌%◌, Bool, cond, not, ◌&&◌, ◌||◌, List, [], ◌∷◌, ◌++◌, length, pos, is_some, Some, None, Option, ◌==◌, int_le, int_lt, nat_le, nat_lt, slice_index}
+use Rattle.std.specs.Prelude.{ℕ, ◌+◌, ◌*◌, ◌/◌, ◌%◌, Bool, cond, ◌&&◌, ◌||◌, List, [], ◌∷◌, ◌++◌, length, pos, is_some, Some, None, Option, ◌==◌, int_le, int_lt, nat_le, nat_lt, slice_index}
 use Rattle.std.specs.List.{range_with_len, flat_map}
 use Rattle.kinds.specs.Meaning.{KindMeaning}
 use Rattle.model.specs.declared.entries.Entry.{Entry}
@@ -7,6 +7,7 @@ use Rattle.model.specs.Sets.{member}
 use Rattle.frames.specs.declared.fault.ReaderFault.{ReaderFault}
 use Rattle.frames.specs.Faults.{ill_formed, not_for_us}
 use Rattle.frames.specs.Layout.{Heading, edition, heading_in, entry_in}
+use Rattle.frames.specs.Reading.{code_counts}
 use Rattle.frames.specs.Sorts.{sort_of, well_addressed}
 
 pub record Demand : Type 0 where
@@ -46,13 +47,9 @@ entry_table counts e place =
     ∷ []
 
 module _ {V : Type 0} (m : KindMeaning V) where
-  -- in a frame of the kind a code has to have a value
-  abbrev pub code_counts : ℕ → ℕ → Bool
-  code_counts kind code = not (kind == m.number) || is_some (m.value code)
-
   -- entry i of a frame of some kind
   abbrev pub table_at : List ℕ → ℕ → ℕ → List Demand
-  table_at bytes kind i = entry_table (code_counts kind (entry_in bytes i).code) (entry_in bytes i) (4 + 12 * i)
+  table_at bytes kind i = entry_table (code_counts m kind (entry_in bytes i).code) (entry_in bytes i) (4 + 12 * i)
 
   -- the first so many entries, one after the other
   abbrev pub row_table : List ℕ → ℕ → ℕ → List Demand

@@ -2,8 +2,8 @@
 ghost use Rattle.std.specs.Prelude.{◌≡◌, ◌+◌, ◌*◌, ◌<◌, ◌≤◌, length};
 ghost use Rattle.frames.specs.Faults.{ill_formed, not_for_us};
 ghost use Rattle.frames.specs.Layout.{heading_of, entry_in};
-ghost use Rattle.frames.specs.Reading.{unless, HeaderRead, row_in, Answered};
-ghost use Rattle.frames.specs.Tables.{first_wrong, entry_table, code_counts, table_at, row_table, address_table};
+ghost use Rattle.frames.specs.Reading.{demand, unless, HeaderRead, entry_fault, first_of, row_in, code_counts, fault_at, address_fault, first_fault, Answered};
+ghost use Rattle.frames.specs.Tables.{first_wrong, table};
 
 use crate::fault::ReaderFault;
 use crate::header::Header;
@@ -35,7 +35,8 @@ fn not_for_us(place: usize) -> ReaderFault
 
 // Reads any bytes as a frame for participant q of a register of n participants and so many cells.
 pub fn read<K: Kind>(bytes: &[u8], n: usize, cells: usize, q: usize) -> Result<Frame, ReaderFault>
-    ensures { Answered K.Kind.means bytes.now n cells q result }
+    ensures answered { Answered K.Kind.means bytes.now n cells q result }
+    ensures by_table { first_fault K.Kind.means bytes.now n cells q ≡ first_wrong (table K.Kind.means bytes.now n cells q) }
 {
     read_frame::<K>(bytes, n, cells, q)
 }
@@ -49,34 +50,27 @@ fn read_frame<K: Kind>(bytes: &[u8], n: usize, cells: usize, q: usize) -> Result
     Ok(Frame { header, row })
 }
 
+// A check that has to pass.
+fn check(passes: bool, fault: ReaderFault) -> Result<(), ReaderFault>
+    ensures { result ≡ unless (demand passes fault) tt }
+{
+    if passes { Ok(()) } else { Err(fault) }
+}
+
 fn read_header(bytes: &[u8]) -> Result<Header, ReaderFault>
     ensures { HeaderRead bytes.now result }
 {
     let len = bytes.len();
-    if len < 4 {
-        return Err(ill_formed(len));
-    }
-    let Some(sort) = Sort::of(bytes[0] / 64) else {
-        return Err(ill_formed(0));
-    };
-    if bytes[0] / 16 % 4 != EDITION {
-        return Err(ill_formed(0));
-    }
+    check(len >= 4, ill_formed(len))?;
+    let sort = Sort::of(bytes[0] / 64).ok_or(ill_formed(0))?;
+    check(bytes[0] / 16 % 4 == EDITION, ill_formed(0))?;
     let n = (bytes[0] % 16) as usize;
-    if n < 2 || n > 7 {
-        return Err(ill_formed(0));
-    }
-    if len != place_of(n) {
-        return Err(ill_formed(len));
-    }
+    check(n >= 2 && n <= 7, ill_formed(0))?;
+    check(len == place_of(n), ill_formed(len))?;
     let sender = (bytes[1] / 16) as usize;
-    if sender >= n {
-        return Err(ill_formed(1));
-    }
+    check(sender < n, ill_formed(1))?;
     let to = bytes[2];
-    if !sort.may_go_to(n, sender, to) {
-        return Err(ill_formed(2));
-    }
+    check(sort.may_go_to(n, sender, to), ill_formed(2))?;
     Ok(Header {
         sort,
         n,
@@ -89,7 +83,7 @@ fn read_header(bytes: &[u8]) -> Result<Header, ReaderFault>
 
 fn read_row<K: Kind>(bytes: &[u8], header: &Header) -> Result<Row, ReaderFault>
     requires { length bytes.now ≡ 4 + 12 * header.now.n }
-    ensures { result ≡ unless (first_wrong (row_table K.Kind.means bytes.now header.now.kind header.now.n)) (row_in bytes.now header.now.n) }
+    ensures { result ≡ unless (first_of (fault_at K.Kind.means bytes.now header.now.kind) header.now.n) (row_in bytes.now header.now.n) }
 {
     let mut row = Row {
         entries: [Entry::none(); 7],
@@ -102,7 +96,7 @@ fn read_row<K: Kind>(bytes: &[u8], header: &Header) -> Result<Row, ReaderFault>
 
 fn read_entry<K: Kind>(bytes: &[u8], i: usize, kind: u8) -> Result<Entry, ReaderFault>
     requires { (i < 7) × (16 + 12 * i ≤ length bytes.now) }
-    ensures { result ≡ unless (first_wrong (table_at K.Kind.means bytes.now kind i)) (entry_in bytes.now i) }
+    ensures { result ≡ unless (fault_at K.Kind.means bytes.now kind i) (entry_in bytes.now i) }
 {
     let place = place_of(i);
     let e = Entry::read(bytes, place).unwrap();
@@ -119,18 +113,11 @@ fn counts<K: Kind>(kind: u8, code: u64) -> bool
 
 fn check_entry(e: &Entry, counts: bool, place: usize) -> Result<(), ReaderFault>
     requires { place < 100 }
-    ensures { result ≡ unless (first_wrong (entry_table counts e.now place)) tt }
+    ensures { result ≡ unless (entry_fault counts e.now place) tt }
 {
-    if e.vote > e.promise {
-        return Err(ill_formed(place + 3));
-    }
-    if e.vote < 0 && e.code != 0 {
-        return Err(ill_formed(place + 6));
-    }
-    if e.vote >= 0 && !counts {
-        return Err(ill_formed(place + 6));
-    }
-    Ok(())
+    check(e.vote <= e.promise, ill_formed(place + 3))?;
+    check(e.vote >= 0 || e.code == 0, ill_formed(place + 6))?;
+    check(e.vote < 0 || counts, ill_formed(place + 6))
 }
 
 fn check_address<K: Kind>(
@@ -139,19 +126,10 @@ fn check_address<K: Kind>(
     cells: usize,
     q: usize,
 ) -> Result<(), ReaderFault>
-    ensures { result ≡ unless (first_wrong (address_table K.Kind.means (heading_of header.now) n cells q)) tt }
+    ensures { result ≡ unless (address_fault K.Kind.means (heading_of header.now) n cells q) tt }
 {
-    if header.n != n {
-        return Err(not_for_us(0));
-    }
-    if header.kind != K::kind_number() {
-        return Err(not_for_us(1));
-    }
-    if !has(header.to, q) {
-        return Err(not_for_us(2));
-    }
-    if header.cell >= cells {
-        return Err(not_for_us(3));
-    }
-    Ok(())
+    check(header.n == n, not_for_us(0))?;
+    check(header.kind == K::kind_number(), not_for_us(1))?;
+    check(has(header.to, q), not_for_us(2))?;
+    check(header.cell < cells, not_for_us(3))
 }

@@ -1,18 +1,21 @@
 use Rattle.std.proofs.Common.{◌<◌, rules}
 use Rattle.std.proofs.ByRecursion.{All-from_get_or}
+use Rattle.frames.specs.Reading.{first_fault}
 use Rattle.frames.proofs.ReadBack.{answered}
-use Rattle.frames.proofs.Readings.{in_parts}
 use Rattle.frames.proofs.Spelling.{spells}
 use Rattle.frames.proofs.reader.read_frame.Goals as goal
 
 pub returns-in_err-header : goal.returns-in_err-header
-returns-in_err-header g c = answered _ _ _ _ _ _ (search (rules, in_parts g.K.Kind.means c.args.bytes.now c.args.n c.args.cells c.args.q))
+unfolding first_fault
+returns-in_err-header g c = answered _ _ _ _ _ _ (search rules)
 
 pub returns-in_err-row : goal.returns-in_err-row
-returns-in_err-row g c = answered _ _ _ _ _ _ (search (rules, in_parts g.K.Kind.means c.args.bytes.now c.args.n c.args.cells c.args.q))
+unfolding first_fault
+returns-in_err-row g c = answered _ _ _ _ _ _ (search rules)
 
 pub returns-in_err-check_address : goal.returns-in_err-check_address
-returns-in_err-check_address g c = answered _ _ _ _ _ _ (search (rules, in_parts g.K.Kind.means c.args.bytes.now c.args.n c.args.cells c.args.q))
+unfolding first_fault
+returns-in_err-check_address g c = answered _ _ _ _ _ _ (search rules)
 
 pub returns : goal.returns
 returns g c =
