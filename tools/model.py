@@ -6,7 +6,7 @@ import sys
 TOP_BALLOT = 16777214
 ROOM = 64
 NONE = (-1, -1, 0)
-NUMBERS = {b"new": 2, b"prepare": 3, b"accept": 3, b"abandon": 2, b"deliver": 2, b"read": 2, b"restart": 1}
+NUMBERS = {b"new": 2, b"prepare": 3, b"accept": 3, b"abandon": 2, b"deliver": 2, b"read": 2}
 
 
 class Session:
@@ -35,13 +35,6 @@ class Session:
 
     def save(self, p, c):
         self.store[p, c] = self.rows[p, c][p]
-
-    def restart(self, p):
-        if p >= self.n:
-            return "no 2"
-        for c in range(self.cells):
-            self.rows[p, c] = [self.store[p, c] if q == p else NONE for q in range(self.n)]
-        return "ok"
 
     def put(self, sender, cell, to):
         kept = to[: max(0, ROOM - len(self.items))]

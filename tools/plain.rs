@@ -210,10 +210,6 @@ impl Page {
         Page { bytes: vec![0; ENTRY * places] }
     }
 
-    fn load(&self, place: usize) -> Entry {
-        Entry::from_bytes(&self.bytes[ENTRY * place..][..ENTRY])
-    }
-
     fn save(&mut self, place: usize, entry: Entry) {
         self.bytes[ENTRY * place..][..ENTRY].copy_from_slice(&entry.to_bytes());
     }
@@ -226,7 +222,6 @@ enum Command {
     Abandon { p: usize, c: usize },
     Deliver { q: usize, k: usize },
     Read { p: usize, c: usize },
-    Restart { p: usize },
 }
 
 impl Command {
@@ -244,7 +239,6 @@ impl Command {
             b"abandon" => Command::Abandon { p: next()? as usize, c: next()? as usize },
             b"deliver" => Command::Deliver { q: next()? as usize, k: next()? as usize },
             b"read" => Command::Read { p: next()? as usize, c: next()? as usize },
-            b"restart" => Command::Restart { p: next()? as usize },
             _ => return None,
         };
         words.next().is_none().then_some(command)
@@ -317,7 +311,6 @@ impl Desk {
             Command::Abandon { p, c } => self.abandon(p, c),
             Command::Deliver { q, k } => self.deliver(q, k),
             Command::Read { p, c } => self.read_out(p, c),
-            Command::Restart { p } => self.restart(p),
         }
     }
 
@@ -440,18 +433,6 @@ impl Desk {
             }
         }
         Ok(if chosen.vote < 0 { Answer::Open } else { Answer::Chosen(chosen.vote, chosen.code) })
-    }
-
-    fn restart(&mut self, p: usize) -> Result<Answer, Fault> {
-        if p >= self.n {
-            return no(2);
-        }
-        for c in 0..self.cells {
-            let place = p * self.cells + c;
-            self.rows[place] = [NONE; MOST];
-            self.rows[place][p] = self.page.load(place);
-        }
-        Ok(Answer::Done)
     }
 }
 

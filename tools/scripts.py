@@ -6,7 +6,7 @@ import sys
 
 TOP_BALLOT = 16777214
 # How often each command comes within a round, while offices outbid each other until the post is full, and while it
-# empties, which takes long since late frames are answered.
+# empties, which takes long since late frames are answered. No line is read as `restart` yet: it is bad.
 CALM = {"prepare": 1, "accept": 2, "abandon": 1, "deliver": 90, "read": 6, "restart": 3}
 CROWD = {"prepare": 25, "accept": 15, "abandon": 4, "deliver": 30, "read": 20, "restart": 2}
 QUIET = {"deliver": 97, "read": 3}

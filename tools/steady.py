@@ -71,12 +71,6 @@ class Script:
             f"reads {p} {c}",
         ])
 
-    # of an office that has no round under way, and so needs none of its views
-    def restart(self):
-        idle = [p for p in range(OFFICES) if all(p != a_round.p for a_round in self.rounds)]
-        if idle:
-            yield f"restart {self.one_of(idle)}"
-
     def all_lines(self):
         yield f"new {OFFICES} {CELLS}"
         while True:
@@ -86,8 +80,6 @@ class Script:
             luck = self.random.random()
             if luck < 0.013:
                 yield self.refused()
-            elif luck < 0.018:
-                yield from self.restart()
 
 
 def main():

@@ -1,4 +1,5 @@
 pub mod Benches
 pub mod Holding
+pub mod Places
 pub mod Sessions
 pub mod State

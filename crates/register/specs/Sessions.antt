@@ -9,7 +9,7 @@ use Rattle.model.specs.declared.faults.Fault.{Fault}
 use Rattle.posts.specs.declared.line.Line.{Line}
 use Rattle.quorums.specs.declared.majority.Majority.{Majority}
 use Rattle.script.specs.declared.command.Command.{Command}
-use Rattle.script.specs.declared.command.Command.TheVariants.{New, Prepare, Accept, Abandon, Deliver, Read, Restart}
+use Rattle.script.specs.declared.command.Command.TheVariants.{New, Prepare, Accept, Abandon, Deliver, Read}
 use Rattle.stores.specs.declared.page.PageStore.{PageStore}
 use Rattle.register.specs.Benches.{our_makes, bench_board, in_range, Laid}
 use Rattle.register.specs.Holding.{ballots, round_at}
@@ -132,7 +132,6 @@ Runs x (Accept p c v) a y = AcceptLine x p c v a y
 Runs x (Abandon p c) a y = AbandonLine x p c a y
 Runs x (Deliver q k) a y = DeliverLine x q k a y
 Runs x (Read p c) a y = ReadLine x p c a y
-Runs x (Restart p) a y = RestartLine x p a y
 
 -- a register that was just set up, and nothing held
 pub record Opened (n cells : ℕ) (y : Sitting) : Type 0 where
@@ -162,7 +161,6 @@ Begins (Accept p c v) a t = (a ≡ Bad) × (t ≡ None)
 Begins (Abandon p c) a t = (a ≡ Bad) × (t ≡ None)
 Begins (Deliver q k) a t = (a ≡ Bad) × (t ≡ None)
 Begins (Read p c) a t = (a ≡ Bad) × (t ≡ None)
-Begins (Restart p) a t = (a ≡ Bad) × (t ≡ None)
 
 -- a command, before and after a `new` that was taken
 abbrev pub Obeys : Option Sitting → Command → Answer → Option Sitting → Type 0

@@ -4,7 +4,7 @@ use Rattle.std.specs.List.{AllByRecursion as All}
 use Rattle.std.specs.Str.{bytes_eq}
 use Rattle.std.proofs.lemmas.Slice.Eq.{bytes_eq-Decides}
 use Rattle.script.specs.declared.command.Command.{Command}
-use Rattle.script.specs.declared.command.Command.TheVariants.{New, Prepare, Accept, Abandon, Deliver, Read, Restart}
+use Rattle.script.specs.declared.command.Command.TheVariants.{New, Prepare, Accept, Abandon, Deliver, Read}
 use Rattle.script.specs.Numerals.{numeral}
 use Rattle.script.specs.Commands.{name, numbers, Spells, ReadsAs, both, numerals, taking, named, called, command_of}
 
@@ -16,7 +16,6 @@ by_name (Accept p c v) = (refl, refl)
 by_name (Abandon p c) = (refl, refl)
 by_name (Deliver q k) = (refl, refl)
 by_name (Read p c) = (refl, refl)
-by_name (Restart p) = (refl, refl)
 
 none≢some : {X : Type 0} (x : X) → None ≡ Some x → ⊥
 none≢some x h = let z : ◌≡◌ {A = ℕ} 0 1 = cc in omega arith
@@ -37,7 +36,7 @@ found w P (d ∷ cs) c a h = found_here w P d c (named w cs) (bytes_eq w (name d
 -- the commands that take ns have these numbers
 taking_takes : (ns : List ℕ) → All (λ c. numbers c ≡ ns) (taking ns)
 taking_takes [] = tt
-taking_takes (a ∷ []) = (refl, tt)
+taking_takes (a ∷ []) = tt
 taking_takes (a ∷ b ∷ []) = (refl, (refl, (refl, (refl, tt))))
 taking_takes (a ∷ b ∷ c ∷ []) = (refl, (refl, tt))
 taking_takes (a ∷ b ∷ c ∷ d ∷ ns) = tt

@@ -2,9 +2,9 @@
 use Rattle.std.specs.Prelude.{◌≡◌, ℕ, cond, List, [], ◌∷◌, map, Some, None, codes, Option}
 use Rattle.std.specs.Str.{bytes_eq}
 use Rattle.script.specs.declared.command.Command.{Command}
-use Rattle.script.specs.declared.command.Command.TheVariants.{New, Prepare, Accept, Abandon, Deliver, Read, Restart}
+use Rattle.script.specs.declared.command.Command.TheVariants.{New, Prepare, Accept, Abandon, Deliver, Read}
 use Rattle.script.specs.declared.command.Numbers.{Numbers}
-use Rattle.script.specs.declared.command.Numbers.TheVariants.{One, Two, Three}
+use Rattle.script.specs.declared.command.Numbers.TheVariants.{Two, Three}
 use Rattle.script.specs.Numerals.{numeral}
 
 -- a command's name
@@ -15,7 +15,6 @@ name (Accept p c v) = codes "accept"
 name (Abandon p c) = codes "abandon"
 name (Deliver q k) = codes "deliver"
 name (Read p c) = codes "read"
-name (Restart p) = codes "restart"
 
 -- and the numbers behind it
 abbrev pub numbers : Command → List ℕ
@@ -25,7 +24,6 @@ numbers (Accept p c v) = p ∷ c ∷ v ∷ []
 numbers (Abandon p c) = p ∷ c ∷ []
 numbers (Deliver q k) = q ∷ k ∷ []
 numbers (Read p c) = p ∷ c ∷ []
-numbers (Restart p) = p ∷ []
 
 -- the pieces of a line are a command's name and words that spell its numbers, and nothing else
 abbrev pub Spells : List (List ℕ) → Command → Type 0
@@ -48,7 +46,7 @@ numerals (w ∷ ws) = both (numeral w) (numerals ws)
 
 abbrev pub taking : List ℕ → List Command
 taking [] = []
-taking (a ∷ []) = Restart a ∷ []
+taking (a ∷ []) = []
 taking (a ∷ b ∷ []) = New a b ∷ Abandon a b ∷ Deliver a b ∷ Read a b ∷ []
 taking (a ∷ b ∷ c ∷ []) = Prepare a b c ∷ Accept a b c ∷ []
 taking (a ∷ b ∷ c ∷ d ∷ ns) = []
@@ -67,7 +65,6 @@ command_of (w ∷ ws) = called w (numerals ws)
 
 -- what is gathered of the words after the name: all of them, where some command may take their numbers
 abbrev pub listed : Numbers → List ℕ
-listed (One a) = a ∷ []
 listed (Two a b) = a ∷ b ∷ []
 listed (Three a b c) = a ∷ b ∷ c ∷ []
 

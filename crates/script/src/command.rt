@@ -16,13 +16,11 @@ pub enum Command {
     Abandon { p: u32, c: u32 },
     Deliver { q: u32, k: u32 },
     Read { p: u32, c: u32 },
-    Restart { p: u32 },
 }
 
 // The numbers that end a line.
 #[derive(Clone, Copy)]
 enum Numbers {
-    One(u32),
     Two(u32, u32),
     Three(u32, u32, u32),
 }
@@ -52,20 +50,8 @@ impl Command {
         ensures { result ≡ named name.now (taking (listed numbers)) }
     {
         match numbers {
-            Numbers::One(a) => Command::of_one(name, a),
             Numbers::Two(a, b) => Command::of_two(name, a, b),
             Numbers::Three(a, b, c) => Command::of_three(name, a, b, c),
-        }
-    }
-
-    // The command of one number.
-    fn of_one(name: &[u8], a: u32) -> Option<Command>
-        ensures { result ≡ named name.now (taking (a ∷ [])) }
-    {
-        if is(name, b"restart") {
-            Some(Command::Restart { p: a })
-        } else {
-            None
         }
     }
 
@@ -108,14 +94,11 @@ fn is(word: &[u8], name: &[u8]) -> bool
 }
 
 impl Numbers {
-    // The words that are left, if they are one to three numbers.
+    // The words that are left, if they are two or three numbers.
     fn read(mut words: Words) -> Option<Numbers>
         ensures { Gathers (to_come words.entry) result }
     {
         let a = words.next_number()?;
-        if words.at_end() {
-            return Some(Numbers::One(a));
-        }
         let b = words.next_number()?;
         if words.at_end() {
             return Some(Numbers::Two(a, b));

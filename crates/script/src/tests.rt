@@ -14,10 +14,6 @@ fn commands_are_read(rt: HostRuntime) {
         Some(Command::Prepare { p: 0, c: 2, b: 3 })
     );
     assert_eq!(rt;
-        Command::read(b"restart 2"),
-        Some(Command::Restart { p: 2 })
-    );
-    assert_eq!(rt;
         Command::read(b"deliver 1 99999999"),
         Some(Command::Deliver { q: 1, k: 99999999 })
     );

@@ -1,8 +1,8 @@
 // What every call asks first, and whose a ballot is.
 ghost use Rattle.std.specs.Prelude.{◌≡◌, ◌*◌, ◌<◌};
 ghost use Rattle.model.specs.declared.faults.Fault.{Fault};
-ghost use Rattle.machine.specs.Places.{Here};
 ghost use Rattle.machine.specs.Refusals.{demand, unless, Opens, owns, door_at, cell_door_at};
+ghost use Rattle.register.specs.Places.{Here};
 
 use super::Register;
 use kinds::kind::Kind;
@@ -45,7 +45,7 @@ impl<K: Kind, Q: QuorumRule, P: Post, S: Store> Register<K, Q, P, S> {
 
     // Refusals 2 and 3 of a call that names a participant and a cell; else the place of its row.
     pub(super) fn check_door(&self, rows: usize, p: usize, c: usize) -> Result<usize, Fault>
-        ensures { Opens (cell_door_at self.now.n self.now.cells self.now.down rows p c) (Here self.now.n self.now.cells rows p c) result }
+        ensures { Opens (cell_door_at self.now.n self.now.cells self.now.down rows p c) (λ place. Here self.now.n self.now.cells rows p c place × (rows ≡ self.now.n * self.now.cells)) result }
     {
         check(
             p < self.n && c < self.cells && rows == self.n * self.cells,

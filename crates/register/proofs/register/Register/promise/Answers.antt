@@ -14,8 +14,8 @@ use Rattle.register.proofs.register.Register.promise.Goals as goal
 
 pub announce-requires : goal.announce-requires
 announce-requires g c =
-    let here = c.in_ok-place.ensures.1 in
-    (here.participant, (here.cell, (here.all, (c.in_ok-next.ensures.1.1, eq-eqb (all_but c.args.self.now.n c.args.p) _ refl))))
+    let here = c.in_ok-place.ensures.1.0 in
+    (here.participant, (here.cell, (c.in_ok-place.ensures.1.1, (c.in_ok-next.ensures.1.1, eq-eqb (all_but c.args.self.now.n c.args.p) _ refl))))
 
 pub returns : goal.returns
 returns g c =
@@ -26,7 +26,7 @@ returns g c =
     let t = table c.args.self.now rows in
     let here = c.in_ok-place.ensures in
     let next = c.in_ok-next.ensures in
-    let at = here.1.row in
+    let at = here.1.0.row in
     let wide : to_z w32 (of_z w32 b) ≡ b = to_z-of_z w32 b c.ranges.b in
     let free : promise_fault n (row_of t p c.args.c) p b ≡ None = sym (λ i. promise_fault n (row_at rows (at i)) p (wide i)) ∙ next.0 in
     let made = next.1.0 ∙ (λ i. promising (entry_at (row_at rows (at i)) p) (wide i)) in (

@@ -9,4 +9,4 @@ returns g c =
     (board c.args.self.now c.args.rows.now c.args.store.now c.args.post.now)
     (board c.take_over.new.self c.take_over.new.rows c.take_over.new.store c.take_over.new.post)
     c.args.q c.args.frame.now c.in_ok-frame.frame c.take_over.result
-    c.in_ok-check_participant.ensures.0 c.in_ok-frame.ensures.reads c.take_over.ensures
+    c.in_ok-check_participant.ensures.0 c.in_ok-frame.ensures.answered.reads c.take_over.ensures

@@ -17,7 +17,7 @@ use Rattle.register.proofs.register.Register.vote.Goals as goal
 
 pub announce-requires : goal.announce-requires
 announce-requires g c =
-    let here = c.in_ok-place.ensures.1 in
+    let here = c.in_ok-place.ensures.1.0 in
     let n = c.args.self.now.n in
     let p = c.args.p in
     let mine = c.in_ok-check_vote.ensures.1 in
@@ -27,7 +27,7 @@ announce-requires g c =
       (
         here.cell,
         (
-          here.all,
+          c.in_ok-place.ensures.1.1,
           (
             subst (λ e. is_entry e ≡ true) (sym next) (voting_entry (to_z w32 (of_z w32 c.args.b)) (g.K.Kind.means.code c.carried-value.result) (owned n p (to_z w32 (of_z w32 c.args.b)) mine) small),
             eq-eqb (all_but n p) _ refl,
@@ -47,7 +47,7 @@ returns-in_err-kept g c =
     let x = board c.args.self.now rows c.args.store.now c.args.post.now in
     let y = board c.announce.new.self c.announce.new.rows c.announce.new.store c.announce.new.post in
     let here = c.in_ok-place.ensures in
-    let at = here.1.row in
+    let at = here.1.0.row in
     let wide : to_z w32 (of_z w32 b) ≡ b = to_z-of_z w32 b c.ranges.b in
     let may = c.in_ok-check_vote.ensures.0 in
     let free = sym (λ i. vote_fault g.Q.QuorumRule.means c.args.self.now.rule n (row_at rows (at i)) p (wide i)) ∙ may in
@@ -72,7 +72,7 @@ returns g c =
     let x = board c.args.self.now rows c.args.store.now c.args.post.now in
     let y = board c.announce.new.self c.announce.new.rows c.announce.new.store c.announce.new.post in
     let here = c.in_ok-place.ensures in
-    let at = here.1.row in
+    let at = here.1.0.row in
     let wide : to_z w32 (of_z w32 b) ≡ b = to_z-of_z w32 b c.ranges.b in
     let may = c.in_ok-check_vote.ensures.0 in
     let free = sym (λ i. vote_fault g.Q.QuorumRule.means c.args.self.now.rule n (row_at rows (at i)) p (wide i)) ∙ may in

@@ -7,4 +7,3 @@ pub record Here (n cells rows p c place : ℕ) : Type 0 where
   pub cell : c < cells
   pub row : place ≡ p * cells + c
   pub within : place < rows
-  pub all : rows ≡ n * cells
