@@ -1,7 +1,7 @@
 -- What is laid out reads back without a fault. Assumes nothing.
 use Rattle.std.proofs.Common.{◌≡◌, ℕ, zero, suc, ◌+◌, ◌*◌, ◌/◌, ◌%◌, ◌<◌, Bool, true, false, not, ◌&&◌, ◌||◌, eqb, ltb, leb, List, [], ◌∷◌, ◌++◌, map, length, get_or, take, drop, pos, is_some, Some, None, Ok, Err, Option, Result, unwrap_or, sym, refl, ap, ◌∙◌, arith}
 use lib.Signed.{lt_z}
-use Rattle.std.specs.List.{flat_map, AllByRecursion as All}
+use Rattle.std.specs.List.{flat_map, AllByRecursion}
 use Rattle.std.proofs.lemmas.List.FromFn.{fill_by_all}
 use Rattle.std.proofs.ByRecursion.{All-get_or}
 use Rattle.std.proofs.lemmas.List.{take_at, drop_at, drop-drop, length-map, get_or-map}
@@ -58,7 +58,7 @@ pub entries_back : (h : Heading) (es : List Entry) (n : ℕ) → length es ≡ n
 entries_back h es n long = sym (fill_by_all (entry_in (laid_out h es)) (map clean es) n none (length-map es clean ∙ long) (λ k lt. let in_row : k < length es = omega arith in get_or-map clean es k none none in_row ∙ sym (entry_back h es k in_row)))
 
 -- entries count as themselves
-pub clean_all : (es : List Entry) → All (λ e. is_entry e ≡ true) es → map clean es ≡ es
+pub clean_all : (es : List Entry) → AllByRecursion (λ e. is_entry e ≡ true) es → map clean es ≡ es
 clean_all [] ok = refl
 clean_all (e ∷ es) ok = λ i. clean_same e ok.0 i ∷ clean_all es ok.1 i
 

@@ -2,7 +2,7 @@
 use Rattle.std.proofs.Common.{◌≡◌, ℕ, zero, suc, ◌+◌, ◌-◌, ◌*◌, ◌/◌, ◌%◌, ◌^◌, ◌<◌, ◌≤◌, Bool, true, ◌||◌, List, [], ◌∷◌, ◌++◌, length, take, drop, replicate, pos, negsuc, is_some, None, Ok, unwrap_or, sym, refl, ap, ◌∙◌, subst, add-one, arith, length-drop, take-add}
 use lib.Signed.{le_z, lt_z}
 use Rattle.std.specs.Int.Digits.{number_from_digits, AllBelowBase}
-use Rattle.std.specs.List.{flat_map, AllByRecursion as All}
+use Rattle.std.specs.List.{flat_map, AllByRecursion}
 use Rattle.std.proofs.lemmas.Nat.{div-add-mod'}
 use Rattle.std.proofs.lemmas.List.FromFn.{length-map-range_with_len, get_or-map-range_with_len, map-range_with_len_more}
 use Rattle.std.proofs.lemmas.Int.Digits.{number_lt}
@@ -90,7 +90,7 @@ module _ (bytes : List ℕ) (n : ℕ) (long : length bytes ≡ 4 + 12 * n) (smal
       (λ i. four_spelled bytes right i ++ rest i) ∙ take-append-drop 4 bytes
 
 -- what holds of each entry read and of none holds of the whole row
-all_row : (P : Entry → Type 0) (bytes : List ℕ) (n : ℕ) → P none → ((i : ℕ) → i < n → P (entry_in bytes i)) → All P (row_in bytes n).entries
+all_row : (P : Entry → Type 0) (bytes : List ℕ) (n : ℕ) → P none → ((i : ℕ) → i < n → P (entry_in bytes i)) → AllByRecursion P (row_in bytes n).entries
 all_row P bytes n idle each =
     let es = entries_in bytes n in
     let long = length-map-range_with_len (entry_in bytes) 0 n in
@@ -123,7 +123,7 @@ module _ {V : Type 0} (m : KindMeaning V) where
         heading = heading;
         row = is;
         only_so = sym ((λ i. laid_out (heading i) (front i)) ∙ laid_out_spelled bytes n long small head.0 proper);
-        proper = subst (λ (r : Row). All (λ e. is_entry e ≡ true) r.entries) (sym is) (all_row (λ e. is_entry e ≡ true) bytes n refl proper);
-        counts = subst (λ (r : Row). All (λ e. valued m e ≡ true) r.entries) (sym is) (all_row (λ e. valued m e ≡ true) bytes n refl counts);
+        proper = subst (λ (r : Row). AllByRecursion (λ e. is_entry e ≡ true) r.entries) (sym is) (all_row (λ e. is_entry e ≡ true) bytes n refl proper);
+        counts = subst (λ (r : Row). AllByRecursion (λ e. valued m e ≡ true) r.entries) (sym is) (all_row (λ e. valued m e ≡ true) bytes n refl counts);
         for_us = ours;
       }

@@ -1,6 +1,6 @@
 -- What reading answers: the first fault of the bytes in the order of the checks, or the frame that they spell. Assumes nothing.
 use Rattle.std.specs.Prelude.{◌≡◌, ℕ, zero, suc, ◌+◌, ◌-◌, ◌*◌, ◌/◌, ◌%◌, ◌<◌, Bool, true, cond, not, ◌&&◌, ◌||◌, List, ◌++◌, map, length, take, replicate, pos, is_some, Some, None, Ok, Err, Option, Result, MatchResult, ◌==◌, int_le, int_lt, nat_le, nat_lt, slice_index}
-use Rattle.std.specs.List.{AllByRecursion as All}
+use Rattle.std.specs.List.{AllByRecursion}
 use Rattle.kinds.specs.Meaning.{KindMeaning}
 use Rattle.model.specs.declared.entries.Entry.{Entry}
 use Rattle.model.specs.declared.rows.Row.{Row}
@@ -96,8 +96,8 @@ module _ {V : Type 0} (m : KindMeaning V) where
     pub heading : heading_of frame.header ≡ heading_in bytes
     pub row : frame.row ≡ row_in bytes n
     pub only_so : bytes ≡ laid_out (heading_of frame.header) (take n frame.row.entries)
-    pub proper : All (λ e. is_entry e ≡ true) frame.row.entries
-    pub counts : All (λ e. valued e ≡ true) frame.row.entries
+    pub proper : AllByRecursion (λ e. is_entry e ≡ true) frame.row.entries
+    pub counts : AllByRecursion (λ e. valued e ≡ true) frame.row.entries
     pub for_us : ForUs (heading_of frame.header) n cells q
 
   abbrev pub Reads : List ℕ → ℕ → ℕ → ℕ → Result Frame ReaderFault → Type 0
@@ -107,7 +107,7 @@ module _ {V : Type 0} (m : KindMeaning V) where
   -- the entries of n participants, each with a value where it votes; what is no entry counts as none
   pub record Complete (n : ℕ) (es : List Entry) : Type 0 where
     pub long : length es ≡ n
-    pub counts : All (λ e. valued (clean e) ≡ true) es
+    pub counts : AllByRecursion (λ e. valued (clean e) ≡ true) es
 
   -- what was laid out for participant q gives back its header and its entries
   abbrev pub ReadsBack : List ℕ → ℕ → ℕ → ℕ → Result Frame ReaderFault → Type 0

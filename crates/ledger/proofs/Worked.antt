@@ -1,6 +1,6 @@
 -- The worked ledgers are kept, and show what they say. Assumes nothing.
 use Rattle.std.proofs.Common.{◌≡◌, ℕ, zero, suc, ◌<◌, true, [], ◌∷◌, ℤ, pos, ◌≤ℤ◌, ◌<ℤ◌, refl, inl, inr, arith}
-use Rattle.std.specs.List.{ContainsAt as Has}
+use Rattle.std.specs.List.{ContainsAt}
 use Rattle.std.proofs.ByRecursion.{has_get_or}
 use Rattle.std.proofs.lemmas.Int.{ints}
 use Rattle.model.specs.Entries.{none}
@@ -38,7 +38,7 @@ abbrev asked_again : Ledger
 asked_again = saved (saved first_round 2 (promising none (pos 5))) 1 (promising (voting (pos 3) 68) (pos 5))
 
 abbrev Ours : Ledger → Type 0
-Ours = Kept majority three (Has (68 ∷ 99 ∷ []))
+Ours = Kept majority three (ContainsAt (68 ∷ 99 ∷ []))
 
 asked_voteless : Voteless 3 (latest asked)
 asked_voteless = each_of_three (λ j. (latest asked j).vote <ℤ pos 0) (omega (arith, ints)) (omega (arith, ints)) (omega (arith, ints))

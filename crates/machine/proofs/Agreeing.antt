@@ -1,6 +1,6 @@
 -- A fresh register is tied to empty ledgers, and what that says of its runs: agreement, handed values, nothing ahead of the store. Assumes nothing.
 use Rattle.std.proofs.Common.{◌≡◌, ℕ, ◌+◌, ◌*◌, ◌<◌, ◌≤◌, true, List, [], ℤ, Some, sym, refl, ap, ◌∙◌, subst, append-nil}
-use Rattle.std.specs.List.{AllByRecursion as All}
+use Rattle.std.specs.List.{AllByRecursion}
 use Rattle.std.proofs.ByRecursion.{All-weaker}
 use Rattle.std.proofs.lemmas.Bool.{and_parts, eqb-true, leb-true}
 use Rattle.frames.specs.Layout.{Heading, heading_in, entry_in}
@@ -88,7 +88,7 @@ module _ {V Q P S : Type 0} (m : Makes V Q P S) where
             store = λ i c lt cn. nothing (i * cells + c);
             own = λ p c pn cn. (all_fit p c pn cn).own;
             rows = λ p c pn cn. (all_fit p c pn cn).past;
-            frames = subst (All (Ours m n cells (λ _. empty))) (sym none) tt;
+            frames = subst (AllByRecursion (Ours m n cells (λ _. empty))) (sym none) tt;
           }
 
   -- what a read-out of a tied board rests on

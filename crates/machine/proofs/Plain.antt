@@ -1,6 +1,6 @@
 -- The plain post and store of the worked runs keep the laws, and what a call does with them. Assumes nothing.
 use Rattle.std.proofs.Common.{◌≡◌, ℕ, zero, suc, ◌-◌, ◌≤◌, Bool, true, false, not, ◌&&◌, ◌||◌, eqb, ltb, List, [], ◌∷◌, ◌++◌, map, length, get_or, take, set, replicate, Ok, Err, filter, sym, refl, ap, ◌∙◌, subst, inr, arith}
-use Rattle.std.specs.List.{remove, range_with_len, AllByRecursion as All}
+use Rattle.std.specs.List.{remove, range_with_len, AllByRecursion}
 use Rattle.std.proofs.ByRecursion.{All-from_get_or, All-take, All-drop, All-map, All-append}
 use Rattle.std.proofs.lemmas.List.{length-set, get_or-set_same, get_or-set_other, get_or_past, take_at}
 use Rattle.std.proofs.lemmas.Bool.{and_parts, and_from, le-leb, lt-ltb, le-ltb, ltb-true, or_left}
@@ -104,13 +104,13 @@ frame_of h sound es = record {
 }
 
 module _ (P : Entry → Type 0) (h : P none) where
-  all_nones : (k : ℕ) → All P (replicate k none)
+  all_nones : (k : ℕ) → AllByRecursion P (replicate k none)
   all_nones zero = tt
   all_nones (suc k) = (h, all_nones k)
 
 -- what is laid out for a participant spells that frame
 pub spells_well : {V : Type 0} (m : KindMeaning V) (h : Heading) (es : List Entry) (n cells q : ℕ) (sound : Sound h) → ForUs m h n cells q → length es ≡ n
-    → All (λ e. is_entry e ≡ true) es → All (λ e. valued m e ≡ true) es → Spells m (laid_out h es) n cells q (frame_of h sound es)
+    → AllByRecursion (λ e. is_entry e ≡ true) es → AllByRecursion (λ e. valued m e ≡ true) es → Spells m (laid_out h es) n cells q (frame_of h sound es)
 spells_well m h es n cells q sound us long proper counts =
     record {
       faultless = faultless m h es n cells q sound us (record { long = long; counts = cleaned es proper counts });
@@ -122,6 +122,6 @@ spells_well m h es n cells q sound us long proper counts =
       for_us = us;
     }
   where
-    cleaned : (es : List Entry) → All (λ e. is_entry e ≡ true) es → All (λ e. valued m e ≡ true) es → All (λ e. valued m (clean e) ≡ true) es
+    cleaned : (es : List Entry) → AllByRecursion (λ e. is_entry e ≡ true) es → AllByRecursion (λ e. valued m e ≡ true) es → AllByRecursion (λ e. valued m (clean e) ≡ true) es
     cleaned [] p c = tt
     cleaned (e ∷ es) p c = (subst (λ e. valued m e ≡ true) (sym (clean_same e p.0)) c.0, cleaned es p.1 c.1)

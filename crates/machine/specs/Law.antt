@@ -1,6 +1,6 @@
 -- What holds over every run of a fresh register. Assumes nothing.
 use Rattle.std.specs.Prelude.{◌≡◌, ℕ, ◌+◌, ◌-◌, ◌*◌, ◌<◌, true, false, cond, ◌⊎◌, List, [], ◌∷◌, ◌++◌, map, length, ℤ, ◌≤ℤ◌, ◌<ℤ◌, Some, Ok, Err, filter, Result, ◌≢◌, slice_index_or}
-use Rattle.std.specs.List.{range_with_len, AllByRecursion as All}
+use Rattle.std.specs.List.{range_with_len, AllByRecursion}
 use Rattle.frames.specs.Layout.{heading_in, entry_in}
 use Rattle.frames.specs.declared.reader.Frame.{Frame}
 use Rattle.frames.specs.declared.sort.Sort.{Sort}
@@ -57,7 +57,7 @@ module _ {V Q P S : Type 0} (m : Makes V Q P S) where
   -- no entry of a row or of a waiting frame is ahead of what the store keeps for its owner
   pub record Behind (x : Board Q P S) : Type 0 where
     pub rows : (p c i : ℕ) → p < x.table.n → c < x.table.cells → i < x.table.n → AtMost (entry_at (row_of x.table p c) i) (stored x i c)
-    pub frames : All (λ item. (i : ℕ) → i < x.table.n → AtMost (entry_in item.frame i) (stored x i (heading_in item.frame).cell)) (m.post.items x.post)
+    pub frames : AllByRecursion (λ item. (i : ℕ) → i < x.table.n → AtMost (entry_in item.frame i) (stored x i (heading_in item.frame).cell)) (m.post.items x.post)
 
   -- one item for each addressee of participant p's row
   abbrev pub to_others : Board Q P S → Sort → ℕ → ℕ → List Item

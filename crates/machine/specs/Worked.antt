@@ -1,7 +1,7 @@
 -- Two worked runs of a register of three participants and one cell, under the majority rule and of glyph numbers. Assumes nothing.
 use Rattle.std.specs.Prelude.{◌≡◌, ℕ, true, not, ◌&&◌, ◌||◌, List, [], ◌∷◌, ◌++◌, reverse, length, drop, replicate, pos, None, Ok, Err, ◌==◌, nat_lt, slice_index_or}
 use Rattle.std.proofs.Common.{leb→le}
-use Rattle.std.specs.List.{AllByRecursion as All}
+use Rattle.std.specs.List.{AllByRecursion}
 use Rattle.frames.specs.declared.sort.Sort.{Sort}
 use Rattle.frames.specs.declared.sort.Sort.TheVariants.{Prepare, Accept, Ack}
 use Rattle.kinds.specs.Glyphs.{glyph_numbers}
@@ -25,7 +25,7 @@ use Rattle.machine.specs.Starts.{first_row, fits, Started}
 -- a post that keeps each frame it can carry, for all it is offered to
 pub record Pile : Type 0 where
   pub items : List Item
-  pub carried : All (λ item. sendable item.frame ≡ true) items
+  pub carried : AllByRecursion (λ item. sendable item.frame ≡ true) items
 
 abbrev pub pile_means : PostMeaning Pile
 pile_means = record { items = λ p. p.items; keeps = λ p frame to q. sendable frame && to q }

@@ -1,7 +1,7 @@
 -- Parcels in a list, and the items that they mean. Assumes nothing.
 use Rattle.std.specs.Prelude.{◌≡◌, ℕ, ◌+◌, ◌<◌, ◌≤◌, true, false, List, [], ◌∷◌, ◌++◌, map, length, take, slice_index_or}
 use Rattle.std.proofs.Common.{ap, sym, ◌∙◌, arith, rules}
-use Rattle.std.specs.List.{remove, AllByRecursion as All}
+use Rattle.std.specs.List.{remove, AllByRecursion}
 use Rattle.std.proofs.lemmas.List.{get_or-map, take_all, length-take-le, map-append, take-map, drop-map, map_push, length-map}
 use Rattle.std.proofs.lemmas.List.Sums.{count_by_more_yes, count_by_more_no}
 use Rattle.std.proofs.lemmas.Bool.{and_from, lt-ltb, le-leb}
@@ -30,7 +30,7 @@ module _ (ps : List Parcel) (i : ℕ) where
   waiting_all q h = ap (waiting q) (take_all i (map meant ps) (simp length-map h))
 
 -- every parcel holds a frame that can be carried
-pub parcels_sendable : (ps : List Parcel) → All (λ item. sendable item.frame ≡ true) (map meant ps)
+pub parcels_sendable : (ps : List Parcel) → AllByRecursion (λ item. sendable item.frame ≡ true) (map meant ps)
 parcels_sendable [] = tt
 parcels_sendable (p ∷ ps) =
     let some = p.some in

@@ -3,7 +3,7 @@ use Rattle.std.specs.Prelude.{◌≡◌, ℕ, ◌+◌, ◌<◌, ◌≤◌, Bool,
 use Rattle.std.proofs.Common.{ap, sym, ◌∙◌, arith, leb→le, ltb→lt}
 use Rattle.std.proofs.Math.Facts.{and_yes}
 use Rattle.std.specs.Option.{ok_or}
-use Rattle.std.specs.List.{list_all, AllByRecursion as All}
+use Rattle.std.specs.List.{list_all, AllByRecursion}
 use Rattle.std.proofs.ByRecursion.{All-get_or, Decides-by_and}
 use Rattle.std.proofs.lemmas.Bool.{leb-true, le-leb, lt-ltb, and_from}
 use Rattle.model.specs.Faults.{no_rule}
@@ -19,10 +19,10 @@ use Rattle.quorums.specs.Weights.{total}
 use Rattle.quorums.specs.Weighing.{weighing_lawful}
 
 -- the test says that each weight is light
-light : (ws : List ℕ) → Decides (list_all (λ w. leb w 15) ws) (All (λ w. w ≤ 15) ws)
+light : (ws : List ℕ) → Decides (list_all (λ w. leb w 15) ws) (AllByRecursion (λ w. w ≤ 15) ws)
 light = Decides-by_and (λ w. leb w 15) (λ w. w ≤ 15) (list_all (λ w. leb w 15)) (λ w. (leb-true w 15, le-leb w 15)) refl (λ _ _. refl)
 
-pub all_light : (ws : List ℕ) → All (λ w. w ≤ 15) ws → true ≡ list_all (λ w. leb w 15) ws
+pub all_light : (ws : List ℕ) → AllByRecursion (λ w. w ≤ 15) ws → true ≡ list_all (λ w. leb w 15) ws
 all_light ws h = sym ((light ws).1 h)
 
 pub one_heavy : (ws : List ℕ) (i : ℕ) → i < length ws → 15 < slice_index ws i → false ≡ list_all (λ w. leb w 15) ws

@@ -4,7 +4,7 @@ ghost use Rattle.std.specs.Option.{option_map};
 ghost use Rattle.stores.specs.Meaning.{Fresh};
 ghost use Rattle.stores.specs.Page.{page_means};
 ghost use Rattle.machine.specs.Calls.{ReadsOut};
-ghost use Rattle.machine.specs.Runs.{Does, prepare as prepare-event, accept as accept-event, deliver as deliver-event, restart as restart-event};
+ghost use Rattle.machine.specs.Runs.{Does, prepare as prepare_event, accept as accept_event, deliver as deliver_event, restart as restart_event};
 ghost use Rattle.register.specs.State.{turn};
 ghost use Rattle.register.specs.Benches.{our_makes, bench_board, as_ballot, of_ballot, handed_back, Lays};
 
@@ -56,7 +56,7 @@ impl Bench {
 
     // Prepares, and tells the round by its ballot.
     pub(crate) fn prepare(&mut self, p: usize, c: usize, b: u32) -> Result<(i32, usize), Fault>
-        ensures { Does our_makes (bench_board self.old) (prepare-event p c (pos b) (of_ballot p c result)) (bench_board self.new) }
+        ensures { Does our_makes (bench_board self.old) (prepare_event p c (pos b) (of_ballot p c result)) (bench_board self.new) }
     {
         match self.register.prepare(
             self.rows.as_mut_slice(),
@@ -73,7 +73,7 @@ impl Bench {
 
     // Accepts. The round is over for the caller, taken or refused.
     pub(crate) fn accept(&mut self, round: Round, glyph: Glyph) -> Result<(Glyph, usize), Fault>
-        ensures { Does our_makes (bench_board self.old) (accept-event (turn round) glyph (handed_back (turn round) result)) (bench_board self.new) }
+        ensures { Does our_makes (bench_board self.old) (accept_event (turn round) glyph (handed_back (turn round) result)) (bench_board self.new) }
     {
         match self.register.accept(
             self.rows.as_mut_slice(),
@@ -97,7 +97,7 @@ impl Bench {
         k: usize,
         buffer: &mut [u8; 88],
     ) -> Result<usize, Fault>
-        ensures { Does our_makes (bench_board self.old) (deliver-event q k buffer.old result buffer.new) (bench_board self.new) }
+        ensures { Does our_makes (bench_board self.old) (deliver_event q k buffer.old result buffer.new) (bench_board self.new) }
     {
         self.register.deliver(
             self.rows.as_mut_slice(),
@@ -110,7 +110,7 @@ impl Bench {
     }
 
     pub(crate) fn restart(&mut self, p: usize) -> Result<(), Fault>
-        ensures { Does our_makes (bench_board self.old) (restart-event p result) (bench_board self.new) }
+        ensures { Does our_makes (bench_board self.old) (restart_event p result) (bench_board self.new) }
     {
         self.register
             .restart(self.rows.as_mut_slice(), &self.page, p)

@@ -1,7 +1,7 @@
 -- Cutting bytes at a mark: one piece after the other, and that these pieces are the only ones. Assumes nothing.
 use Rattle.std.proofs.Common.{◌≡◌, ℕ, zero, suc, ◌+◌, ◌<◌, ◌≤◌, Bool, true, false, cond, eqb, List, [], ◌∷◌, ◌++◌, length, get_or, take, drop, sym, refl, ap, ◌∙◌, add-one, arith}
 use Rattle.std.specs.Str.Iter.{LacksByte}
-use Rattle.std.specs.List.{join_with_byte, AllByRecursion as All}
+use Rattle.std.specs.List.{join_with_byte, AllByRecursion}
 use Rattle.std.proofs.lemmas.List.{at_drop_more, at_drop_all}
 use Rattle.std.proofs.lemmas.Bool.{eqb-true, eqb-false, ne_eqb, eq-eqb}
 use Rattle.script.specs.Pieces.{front, others, cut, CutAt}
@@ -54,7 +54,7 @@ lacks_cons mark b bs n h zero l e = n e
 lacks_cons mark b bs n h (suc k) l e = h k (omega arith) e
 
 abbrev Sound : ℕ → List ℕ → List (List ℕ) → Type 0
-Sound mark bs ps = (join_with_byte mark ps ≡ bs) × All (LacksByte mark) ps
+Sound mark bs ps = (join_with_byte mark ps ≡ bs) × AllByRecursion (LacksByte mark) ps
 
 sound_more : (mark b : ℕ) (bs : List ℕ) (t : Bool) → eqb b mark ≡ t → Sound mark bs (cut mark bs) → Sound mark (b ∷ bs) (cond t [] (b ∷ front mark bs) ∷ cond t (cut mark bs) (others mark bs))
 sound_more mark b bs true e h = (λ i. sym (eqb-true b mark e) i ∷ h.0 i, ((λ k l _. absurd (omega arith)), h.1))
@@ -76,7 +76,7 @@ cut_append : (mark : ℕ) (bs rest : List ℕ) → LacksByte mark bs → (front 
 cut_append mark [] rest h = rw (eq-eqb mark mark refl) (refl, refl)
 cut_append mark (b ∷ bs) rest h = cut_onto mark b (bs ++ mark ∷ rest) (h 0 (omega arith)) (cut_append mark bs rest (λ k l e. h (suc k) (omega arith) e))
 
-cut_rejoined : (mark : ℕ) (ps : List (List ℕ)) → 0 < length ps → All (LacksByte mark) ps → cut mark (join_with_byte mark ps) ≡ ps
+cut_rejoined : (mark : ℕ) (ps : List (List ℕ)) → 0 < length ps → AllByRecursion (LacksByte mark) ps → cut mark (join_with_byte mark ps) ≡ ps
 cut_rejoined mark [] l h = absurd (omega arith)
 cut_rejoined mark (p ∷ []) l h = let q = cut_lacking mark p h.0 in λ i. q.0 i ∷ q.1 i
 cut_rejoined mark (p ∷ q ∷ ps) l h =

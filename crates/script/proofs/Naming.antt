@@ -1,6 +1,6 @@
 -- The command that a line is read as is the one that it spells. Assumes nothing.
 use Rattle.std.proofs.Common.{◌≡◌, ℕ, Bool, true, false, cond, List, [], ◌∷◌, map, Some, None, Option, sym, refl, ap, ◌∙◌, subst, arith}
-use Rattle.std.specs.List.{AllByRecursion as All}
+use Rattle.std.specs.List.{AllByRecursion}
 use Rattle.std.specs.Str.{bytes_eq}
 use Rattle.std.proofs.lemmas.Slice.Eq.{bytes_eq-Decides}
 use Rattle.script.specs.declared.command.Command.{Command}
@@ -29,12 +29,12 @@ found_here : (w : List ℕ) (P : Command → Type 0) (d c : Command) (rest : Opt
 found_here w P d c rest true e p later h = let q : d ≡ c = cc in record { same = (bytes_eq-Decides w (name d)).0 e ∙ ap name q; holds = subst P q p }
 found_here w P d c rest false e p later h = later h
 
-found : (w : List ℕ) (P : Command → Type 0) (cs : List Command) (c : Command) → All P cs → named w cs ≡ Some c → Found w P c
+found : (w : List ℕ) (P : Command → Type 0) (cs : List Command) (c : Command) → AllByRecursion P cs → named w cs ≡ Some c → Found w P c
 found w P [] c a h = absurd (none≢some c h)
 found w P (d ∷ cs) c a h = found_here w P d c (named w cs) (bytes_eq w (name d)) refl a.0 (found w P cs c a.1) h
 
 -- the commands that take ns have these numbers
-taking_takes : (ns : List ℕ) → All (λ c. numbers c ≡ ns) (taking ns)
+taking_takes : (ns : List ℕ) → AllByRecursion (λ c. numbers c ≡ ns) (taking ns)
 taking_takes [] = tt
 taking_takes (a ∷ []) = tt
 taking_takes (a ∷ b ∷ []) = (refl, (refl, (refl, (refl, tt))))

@@ -6,7 +6,7 @@ ghost use Rattle.frames.specs.Sorts.{well_addressed};
 ghost use Rattle.frames.specs.declared.sort.Sort.TheVariants.{Ack};
 ghost use Rattle.model.specs.Entries.{is_entry};
 ghost use Rattle.model.specs.Sets.{single as mask_of_one};
-ghost use Rattle.std.specs.List.{AllByRecursion as All};
+ghost use Rattle.std.specs.List.{AllByRecursion};
 ghost use Rattle.machine.specs.Board.{makes};
 ghost use Rattle.machine.specs.Showing.{ShowsNoLess};
 ghost use Rattle.register.specs.State.{board};
@@ -79,7 +79,7 @@ impl<K: Kind, Q: QuorumRule, P: Post, S: Store> Register<K, Q, P, S> {
         q: usize,
         frame: &Frame,
     ) -> Result<usize, Fault>
-        requires { (q < self.old.n) × ((length rows.old ≡ self.old.n * self.old.cells) × ((ForUs K.Kind.means (heading_of frame.now.header) self.old.n self.old.cells q) × (All (λ e. is_entry e ≡ true) frame.now.row.entries))) }
+        requires { (q < self.old.n) × ((length rows.old ≡ self.old.n * self.old.cells) × ((ForUs K.Kind.means (heading_of frame.now.header) self.old.n self.old.cells q) × (AllByRecursion (λ e. is_entry e ≡ true) frame.now.row.entries))) }
         ensures { TakesOver (makes K.Kind.means Q.QuorumRule.means P.Post.means S.Store.means) (board self.old rows.old store.old post.old) q frame.now result (board self.new rows.new store.new post.new) }
     {
         let sender = frame.header.sender;

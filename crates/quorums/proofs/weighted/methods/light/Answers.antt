@@ -1,5 +1,5 @@
 use Rattle.std.proofs.Common.{◌≤◌, subst, arith}
-use Rattle.std.specs.List.{AllByRecursion as All}
+use Rattle.std.specs.List.{AllByRecursion}
 use Rattle.std.proofs.ByRecursion.{All-more}
 use Rattle.std.proofs.lemmas.List.{take_all}
 use Rattle.quorums.specs.Loads.{all_light, one_heavy}
@@ -14,4 +14,4 @@ loop-w-preserved c = All-more (λ w. w ≤ 15) c.args.weights.now c.loop-w.w-ind
 pub returns : goal.returns
 returns c =
     let ws = c.args.weights.now in
-    all_light ws (subst (All (λ w. w ≤ 15)) (take_all c.loop-w.w-index ws (omega arith)) c.loop-w.invariant)
+    all_light ws (subst (AllByRecursion (λ w. w ≤ 15)) (take_all c.loop-w.w-index ws (omega arith)) c.loop-w.invariant)
