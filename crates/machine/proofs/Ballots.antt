@@ -1,5 +1,5 @@
 -- What prepare and accept make is an entry. Assumes nothing.
-use Rattle.std.proofs.Common.{◌≡◌, ℕ, zero, suc, ◌%◌, ◌^◌, ◌<◌, Bool, true, false, eqb, leb, List, [], ◌∷◌, get_or, ℤ, pos, negsuc, sym, refl, ap, ◌∙◌, subst, arith, w32, SFits, to_z, of_z}
+use Rattle.std.proofs.Common.{◌≡◌, ℕ, zero, suc, ◌%◌, ◌^◌, ◌<◌, Bool, true, eqb, leb, List, [], ◌∷◌, get_or, ℤ, pos, negsuc, refl, arith, w32, SFits, to_z, of_z}
 use mathlib.Core.Bool.{false≢true}
 use lib.Signed.{le_z, lt_z}
 use Rattle.std.proofs.lemmas.Int.{ints, to_z-of_z}

@@ -1,5 +1,5 @@
 -- Lemmas on checks one after another. Assumes nothing.
-use Rattle.std.proofs.Common.{◌≡◌, Bool, true, false, is_ok, Some, None, Ok, Err, Option, Result, sym, refl, ap, ◌∙◌, subst, true≢false}
+use Rattle.std.proofs.Common.{◌≡◌, Bool, true, false, is_ok, Some, None, Ok, Option, Result, sym, refl, ap, ◌∙◌, subst}
 use Rattle.std.specs.Option.{option_or}
 use Rattle.model.specs.declared.faults.Fault.{Fault}
 use Rattle.machine.specs.Refusals.{demand, unless, Opens}

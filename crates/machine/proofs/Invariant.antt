@@ -1,5 +1,5 @@
 -- What ties the board of a run to one ledger for each cell. Assumes nothing.
-use Rattle.std.proofs.Common.{◌≡◌, ℕ, ◌*◌, ◌<◌, ◌≤◌, true, false, List, length, get_or}
+use Rattle.std.proofs.Common.{◌≡◌, ℕ, ◌*◌, ◌<◌, ◌≤◌, true, false, List, length}
 use Rattle.std.specs.List.{AllByRecursion}
 use Rattle.frames.specs.Layout.{Heading, Sound, laid_out}
 use Rattle.ledger.specs.Growth.{PastRow, Kept}
@@ -8,7 +8,7 @@ use Rattle.model.specs.Sets.{member}
 use Rattle.model.specs.declared.entries.Entry.{Entry}
 use Rattle.posts.specs.Meaning.{Item}
 use Rattle.steps.specs.Rows.{entry_at}
-use Rattle.machine.specs.Board.{Makes, Table, Board, row_of, own}
+use Rattle.machine.specs.Board.{Makes, Board, row_of, own}
 use Rattle.machine.specs.Law.{Handed, stored}
 use Rattle.machine.specs.Runs.{Event}
 

@@ -1,5 +1,5 @@
 -- The law over all runs of a fresh register. Assumes nothing.
-use Rattle.std.proofs.Common.{◌≡◌, ℕ, true, List, []}
+use Rattle.std.proofs.Common.{◌≡◌, ℕ, true, []}
 use Rattle.kinds.specs.Meaning.{KindLaws}
 use Rattle.posts.specs.Meaning.{PostLaws}
 use Rattle.quorums.specs.Meaning.{RuleLaws}

@@ -16,7 +16,7 @@ use Rattle.model.proofs.Masks.{member-all_but}
 use Rattle.model.specs.declared.entries.Entry.{Entry}
 use Rattle.posts.specs.Meaning.{Item, addressed}
 use Rattle.steps.specs.Entries.{seen, adopted, behind}
-use Rattle.machine.specs.Board.{Makes, Table, Board, place_of, row_of, own}
+use Rattle.machine.specs.Board.{Makes, Table, Board, place_of, row_of}
 use Rattle.machine.specs.Calls.{sent, Delivered}
 use Rattle.machine.specs.Law.{Without, taken, owed, to_others, Quiet, done, took, refused}
 use Rattle.machine.specs.Runs.{Event, deliver, Step}

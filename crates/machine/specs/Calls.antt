@@ -1,10 +1,9 @@
 -- What each call does: its answer, and the table, the store and the post after it. Assumes nothing.
-use Rattle.std.specs.Prelude.{◌≡◌, ℕ, ◌≤◌, Bool, true, false, ◌⊎◌, List, take, ℤ, pos, Some, None, Ok, Err, Option, Result, ◌≢◌, slice_index_or}
+use Rattle.std.specs.Prelude.{◌≡◌, ℕ, Bool, true, false, ◌⊎◌, List, take, ℤ, pos, Some, None, Ok, Err, Option, Result, ◌≢◌, slice_index_or}
 use Rattle.std.specs.Option.{option_map}
 use Rattle.frames.specs.Faults.{passed_up}
 use Rattle.frames.specs.Layout.{laid_out}
 use Rattle.frames.specs.Reading.{Spells, first_fault}
-use Rattle.frames.specs.declared.fault.ReaderFault.{ReaderFault}
 use Rattle.frames.specs.declared.reader.Frame.{Frame}
 use Rattle.frames.specs.declared.sort.Sort.{Sort}
 use Rattle.frames.specs.declared.sort.Sort.TheVariants.{Prepare, Accept, Ack}
@@ -17,7 +16,7 @@ use Rattle.posts.specs.Meaning.{Puts, Takes}
 use Rattle.steps.specs.Entries.{promising, voting, seen, adopted, behind}
 use Rattle.steps.specs.Rows.{entry_at, Carries, Shows}
 use Rattle.stores.specs.Meaning.{Saves}
-use Rattle.machine.specs.Board.{Makes, Table, Board, Turn, place_of, row_of, own, row_at, renewed, gone_down, with_rows}
+use Rattle.machine.specs.Board.{Makes, Table, Board, Turn, place_of, row_of, own, renewed, gone_down, with_rows}
 use Rattle.machine.specs.Keeping.{SavesChange}
 use Rattle.machine.specs.Refusals.{door, cell_door, prepare_refusal, accept_refusal}
 

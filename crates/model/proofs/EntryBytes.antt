@@ -1,5 +1,5 @@
 -- An entry's bytes read back, and only one string of twelve bytes reads so. Assumes nothing.
-use Rattle.std.proofs.Common.{◌≡◌, ℕ, zero, suc, ◌^◌, ◌<◌, true, List, ◌++◌, length, take, drop, ℤ, pos, negsuc, ◌≤ℤ◌, sym, refl, ap, ◌∙◌, subst, arith, length-drop, take-append-drop, leb-true}
+use Rattle.std.proofs.Common.{◌≡◌, ℕ, zero, suc, ◌<◌, true, List, ◌++◌, length, take, drop, ℤ, pos, negsuc, sym, refl, ap, ◌∙◌, arith, length-drop, take-append-drop, leb-true}
 use lib.Signed.{le_z}
 use Rattle.std.specs.Int.Digits.{number_from_digits, AllBelowBase}
 use Rattle.std.proofs.lemmas.List.{length-take-le, drop-drop, take_all}
@@ -9,7 +9,7 @@ use Rattle.model.specs.declared.entries.Entry.{Entry}
 use Rattle.model.specs.Bytes.{big, raised, lowered, written, spelled}
 use Rattle.model.specs.Entries.{is_entry}
 use Rattle.model.proofs.Numbers.{number_big, big_number}
-use Rattle.model.proofs.Proper.{Proper, proper}
+use Rattle.model.proofs.Proper.{proper}
 
 raised_lowered : (n : ℕ) → raised (lowered n) ≡ n
 raised_lowered zero = refl

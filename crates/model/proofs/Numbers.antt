@@ -1,5 +1,5 @@
 -- A number in bytes, highest first, and back. Assumes nothing.
-use Rattle.std.proofs.Common.{◌≡◌, ℕ, zero, suc, ◌+◌, ◌*◌, ◌/◌, ◌%◌, ◌^◌, ◌<◌, ◌≤◌, List, [], ◌∷◌, ◌++◌, length, sym, refl, ap, ◌∙◌, mod-eq_of_lt, mul_assoc, add-mul, pow-suc, mul-add, add-one, arith}
+use Rattle.std.proofs.Common.{◌≡◌, ℕ, zero, suc, ◌+◌, ◌*◌, ◌/◌, ◌%◌, ◌^◌, ◌<◌, ◌≤◌, List, [], ◌∷◌, length, refl, ap, ◌∙◌, mod-eq_of_lt, mul_assoc, add-mul, pow-suc, add-one, arith}
 use native.Mathlib.Nat.{pow-le-pow_right, pow-succ', mod-one}
 use lib.Arith.{mod-mul, digits_div, digits_mod}
 use Rattle.std.specs.Int.Digits.{number_from_digits, number_from_digits_after, AllBelowBase}

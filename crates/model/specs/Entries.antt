@@ -1,5 +1,5 @@
 -- When three numbers are an entry, and what counts where they are not. Assumes nothing.
-use Rattle.std.specs.Prelude.{ℕ, ◌^◌, Bool, cond, ◌&&◌, ◌||◌, pos, negsuc, ◌==◌, int_le, nat_lt}
+use Rattle.std.specs.Prelude.{◌^◌, Bool, cond, ◌&&◌, ◌||◌, pos, negsuc, ◌==◌, int_le, nat_lt}
 use Rattle.model.specs.declared.entries.Entry.{Entry}
 
 -- neither a promise nor a vote

@@ -1,5 +1,5 @@
 -- What a line of a script does: its answer, and the session after it. Assumes nothing.
-use Rattle.std.specs.Prelude.{◌≡◌, ℕ, ◌*◌, true, false, List, set, replicate, ℤ, pos, negsuc, Some, None, Ok, Err, Option, Result, slice_set}
+use Rattle.std.specs.Prelude.{◌≡◌, ℕ, ◌*◌, true, false, List, replicate, ℤ, pos, negsuc, Some, None, Ok, Err, Option, Result, slice_set}
 use Rattle.kinds.specs.Glyphs.{made_glyph}
 use Rattle.kinds.specs.declared.glyph.Glyph.{Glyph}
 use Rattle.machine.specs.Board.{Board, Turn, place_of}

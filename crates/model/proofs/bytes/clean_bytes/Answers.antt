@@ -1,6 +1,6 @@
-use Rattle.std.proofs.Common.{◌≡◌, ℕ, List, [], ◌∷◌, ◌++◌, get_or, sym, refl, ap, ◌∙◌, subst, w32, SFits, rules}
+use Rattle.std.proofs.Common.{◌≡◌, [], ◌∷◌, get_or, ap, ◌∙◌, w32, SFits, rules}
 use Rattle.std.proofs.lemmas.Int.{to_z-of_z}
-use Rattle.model.specs.Bytes.{big, written, spelled, raised}
+use Rattle.model.specs.Bytes.{big, written, spelled}
 use Rattle.model.specs.Entries.{clean}
 use Rattle.model.proofs.EntryBytes.{spelled_written}
 use Rattle.model.proofs.Proper.{clean_is_entry}

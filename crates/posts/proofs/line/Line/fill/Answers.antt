@@ -1,4 +1,4 @@
-use Rattle.std.proofs.Common.{◌≡◌, ◌-◌, arith, rules}
+use Rattle.std.proofs.Common.{◌≡◌, arith, rules}
 use lib.ListN.{length-map}
 use Rattle.model.specs.Sets.{member}
 use Rattle.posts.specs.Filling.{filling_none, filling_count}

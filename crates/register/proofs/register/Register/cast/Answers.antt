@@ -1,4 +1,4 @@
-use Rattle.std.proofs.Common.{◌≡◌, Ok, Err, sym, refl, ap, ◌∙◌, subst, w32, to_z, of_z}
+use Rattle.std.proofs.Common.{Ok, Err, refl, ◌∙◌, w32, to_z, of_z}
 use Rattle.std.proofs.lemmas.Int.{to_z-of_z}
 use Rattle.machine.specs.Board.{makes}
 use Rattle.register.specs.State.{board, turn}

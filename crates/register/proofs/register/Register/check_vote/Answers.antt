@@ -3,7 +3,6 @@ use Rattle.std.specs.Option.{option_or}
 use Rattle.std.proofs.lemmas.Int.{to_z-of_z}
 use Rattle.model.specs.Entries.{is_entry}
 use Rattle.model.specs.Faults.{not_promised, voted_already, too_few}
-use Rattle.model.specs.Sets.{member}
 use Rattle.model.proofs.Proper.{clean_is_entry}
 use Rattle.steps.specs.Rows.{entry_at, same_ballot, promised}
 use Rattle.machine.specs.Refusals.{demand, unless, Opens, owns}

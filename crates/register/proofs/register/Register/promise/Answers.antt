@@ -1,11 +1,11 @@
-use Rattle.std.proofs.Common.{◌≡◌, None, sym, refl, ap, ◌∙◌, subst, w32, to_z, of_z}
+use Rattle.std.proofs.Common.{◌≡◌, None, sym, refl, ◌∙◌, subst, w32, to_z, of_z}
 use Rattle.std.proofs.lemmas.Int.{to_z-of_z}
 use Rattle.std.proofs.lemmas.Bool.{eq-eqb}
 use Rattle.frames.specs.declared.sort.Sort.TheVariants.{Prepare}
 use Rattle.model.specs.Sets.{all_but}
 use Rattle.steps.specs.Entries.{promising}
 use Rattle.steps.specs.Rows.{entry_at}
-use Rattle.machine.specs.Board.{makes, row_at, row_of, own}
+use Rattle.machine.specs.Board.{makes, row_at, row_of}
 use Rattle.register.specs.State.{table, board}
 use Rattle.machine.specs.Calls.{Announced}
 use Rattle.machine.specs.Refusals.{cell_door, promise_fault}

@@ -1,4 +1,4 @@
-use Rattle.std.proofs.Common.{◌≡◌, ℕ, List, take, drop, replicate, sym, ap, ◌∙◌, subst}
+use Rattle.std.proofs.Common.{ℕ, List, take, drop, replicate, ap, ◌∙◌, subst}
 use Rattle.frames.specs.Layout.{laid_out}
 use Rattle.model.specs.Sets.{member}
 use Rattle.posts.specs.Meaning.{Puts}

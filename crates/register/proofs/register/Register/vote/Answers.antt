@@ -1,4 +1,4 @@
-use Rattle.std.proofs.Common.{◌≡◌, min, true, None, Err, sym, refl, ap, ◌∙◌, subst, inr, arith, w32, to_z, of_z}
+use Rattle.std.proofs.Common.{◌≡◌, min, true, Err, sym, refl, ap, ◌∙◌, subst, inr, arith, w32, to_z, of_z}
 use Rattle.std.proofs.lemmas.Result.{err_from_is_err_and}
 use Rattle.std.proofs.lemmas.Int.{to_z-of_z}
 use Rattle.std.proofs.lemmas.Bool.{eq-eqb}
@@ -10,7 +10,7 @@ use Rattle.steps.specs.Rows.{Carries}
 use Rattle.machine.specs.Board.{makes, row_at, row_of, place_of}
 use Rattle.register.specs.State.{table, board}
 use Rattle.machine.specs.Calls.{Stopped, Announced, Votes}
-use Rattle.machine.specs.Refusals.{cell_door, owns, vote_fault, accept_refusal}
+use Rattle.machine.specs.Refusals.{cell_door, vote_fault}
 use Rattle.machine.proofs.Ballots.{owned, voting_entry}
 use Rattle.machine.proofs.Checks.{passed}
 use Rattle.register.proofs.register.Register.vote.Goals as goal
