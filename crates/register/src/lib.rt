@@ -1,6 +1,7 @@
 // The slot register: participants settle cells by the steps of TPaxos.
 #![tactic(auto)]
 
+pub mod answer;
 mod bench;
 pub mod desk;
 mod held;

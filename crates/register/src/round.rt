@@ -1,5 +1,5 @@
 // A round: the right to accept once with a prepared ballot.
-ghost use Rattle.std.specs.Prelude.{◌≡◌};
+ghost use Rattle.std.specs.Prelude.{◌≡◌, negsuc};
 
 // A round of participant p in cell c with ballot b. It comes only from prepare, and accept or abandon ends it: letting one go is refused by the check.
 pub struct Round {
@@ -9,8 +9,9 @@ pub struct Round {
 }
 
 impl Drop for Round {
+    // Only a round without a ballot may be let go, and prepare gives no such round.
     fn drop(self)
-        requires { ⊥ }
+        requires { self.b ≡ negsuc 0 }
     {
         let Round { p: _, c: _, b: _ } = self;
     }
@@ -25,21 +26,21 @@ impl Round {
     }
 
     // The participant that prepared.
-    pub(crate) fn participant(&self) -> usize
+    pub fn participant(&self) -> usize
         ensures { result ≡ self.now.p }
     {
         self.p
     }
 
     // The cell.
-    pub(crate) fn cell(&self) -> usize
+    pub fn cell(&self) -> usize
         ensures { result ≡ self.now.c }
     {
         self.c
     }
 
     // The ballot.
-    pub(crate) fn ballot(&self) -> i32
+    pub fn ballot(&self) -> i32
         ensures { result ≡ self.now.b }
     {
         self.b

@@ -1,5 +1,5 @@
 // Whole scripts, line by line.
-use answers::Answer;
+use register::answer::Answer;
 use register::session::Session;
 use std::process::Abort;
 use std::test::Fail;

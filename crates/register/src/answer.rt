@@ -1,0 +1,2 @@
+// What a session answers to a line.
+pub use answers::Answer;
