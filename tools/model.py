@@ -5,7 +5,6 @@ import sys
 
 TOP_BALLOT = 16777214
 ROOM = 64
-NONE = (-1, -1, 0)
 NUMBERS = {b"new": 2, b"prepare": 3, b"accept": 3, b"abandon": 2, b"deliver": 2, b"read": 2}
 
 
@@ -29,12 +28,8 @@ class Session:
             return "no 1"
         self.n, self.cells, self.items, self.held = n, cells, [], {}
         # an entry is (promise, vote, value)
-        self.store = {(p, c): NONE for p in range(n) for c in range(cells)}
-        self.rows = {place: [NONE] * n for place in self.store}
+        self.rows = {(p, c): [(-1, -1, 0)] * n for p in range(n) for c in range(cells)}
         return "ok"
-
-    def save(self, p, c):
-        self.store[p, c] = self.rows[p, c][p]
 
     def put(self, sender, cell, to):
         kept = to[: max(0, ROOM - len(self.items))]
@@ -53,7 +48,6 @@ class Session:
         if b <= row[p][0]:
             return "no 5"
         row[p] = (b, *row[p][1:])
-        self.save(p, c)
         self.held[p, c] = b
         return f"ok {self.put(p, c, self.others(p))}"
 
@@ -72,7 +66,6 @@ class Session:
         leader = max(row, key=lambda entry: entry[1])
         value = leader[2] if leader[1] >= 0 else v
         row[p] = (b, b, value)
-        self.save(p, c)
         del self.held[p, c]
         return f"ok {value} {self.put(p, c, self.others(p))}"
 
@@ -90,7 +83,6 @@ class Session:
         view, own = row[sender], row[q]
         row[sender] = (max(view[0], s[0]), *(s[1:] if s[1] > view[1] else view[1:]))
         row[q] = (max(own[0], s[0]), *(s[1:] if own[0] <= s[1] else own[1:]))
-        self.save(q, c)
         behind = t[0] < row[q][0] or t[1] < row[q][1]
         return f"ok {self.put(q, c, [sender]) if behind else 0}"
 
