@@ -8,6 +8,7 @@ use Rattle.frames.specs.Layout.{heading_in}
 use Rattle.frames.specs.Reading.{demand, or_else, first_of, fault_at, first_fault}
 use Rattle.frames.specs.Tables.{Demand, first_wrong, header_table, table_at, row_table, address_table, table}
 
+-- a row in front of a table that comes in two parts
 parted : (t : Bool) (fault : ReaderFault) (whole front back : Option ReaderFault) → whole ≡ or_else front back → cond t whole (Some fault) ≡ or_else (cond t front (Some fault)) back
 parted true fault whole front back is = is
 parted false fault whole front back is = refl
@@ -17,13 +18,14 @@ wrong_append : (front back : List Demand) → first_wrong (front ++ back) ≡ or
 wrong_append [] back = refl
 wrong_append (d ∷ ds) back = parted d.holds d.fault _ _ _ (wrong_append ds back)
 
-counting_last : (a n j : ℕ) → a + n ≡ j → range_with_len a (suc n) ≡ range_with_len a n ++ j ∷ []
-counting_last a zero j is = let same : a ≡ j = omega arith in ap (λ k. k ∷ []) same
-counting_last a (suc n) j is = ap (λ l. a ∷ l) (counting_last (a + 1) n j (omega arith))
+-- the last of so many numbers
+range_last : (a n j : ℕ) → a + n ≡ j → range_with_len a (suc n) ≡ range_with_len a n ++ j ∷ []
+range_last a zero j is = let same : a ≡ j = omega arith in ap (λ k. k ∷ []) same
+range_last a (suc n) j is = ap (λ l. a ∷ l) (range_last (a + 1) n j (omega arith))
 
 -- tables one after the other, by number
 wrong_last : (table : ℕ → List Demand) (k : ℕ) → first_wrong (flat_map table (range_with_len 0 (suc k))) ≡ or_else (first_wrong (flat_map table (range_with_len 0 k))) (first_wrong (table k))
-wrong_last table k = ap (λ l. first_wrong (flat_map table l)) (counting_last 0 k k (omega arith)) ∙ ap first_wrong (sym (flat_map_more table [] (range_with_len 0 k) k)) ∙ wrong_append (flat_map table (range_with_len 0 k)) (table k)
+wrong_last table k = ap (λ l. first_wrong (flat_map table l)) (range_last 0 k k (omega arith)) ∙ ap first_wrong (sym (flat_map_more table [] (range_with_len 0 k) k)) ∙ wrong_append (flat_map table (range_with_len 0 k)) (table k)
 
 -- a check and those behind it are a row and those below it
 row_of_check : (t : Bool) (fault : ReaderFault) {later below : Option ReaderFault} → later ≡ below → or_else (demand t fault) later ≡ cond t below (Some fault)

@@ -1,11 +1,10 @@
 // Whole scripts, line by line.
 use register::answer::Answer;
 use register::session::Session;
-use std::process::Abort;
 use std::test::Fail;
 
 // Each line with the answer it must get.
-fn play(rt: &(impl Abort + AllocGlobal), lines: &[(&str, Answer)]) -> Result<(), Fail> {
+fn play(rt: &HostRuntime, lines: &[(&str, Answer)]) -> Result<(), Fail> {
     let mut session = Session::Waiting;
     for (line, want) in lines {
         let got = session.answer(rt.alloc(), line.as_bytes())?;

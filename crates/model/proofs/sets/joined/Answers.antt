@@ -7,4 +7,4 @@ use Rattle.model.proofs.sets.joined.Goals as goal
 pub returns : goal.returns
 returns c =
     let is = ap (bit_or c.args.set) c.single.ensures.value in
-    (record { value = is; by_members = λ i. ap (λ m. member m i) is ∙ member-with c.args.set c.args.p i })
+    record { value = is; by_members = λ i. ap (λ m. member m i) is ∙ member-with c.args.set c.args.p i }
