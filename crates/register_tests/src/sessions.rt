@@ -8,7 +8,9 @@ fn play(rt: &HostRuntime, lines: &[(&str, Answer)]) -> Result<(), Fail> {
     let mut session = Session::Waiting;
     for (line, want) in lines {
         let got = session.answer(rt.alloc(), line.as_bytes())?;
-        assert_eq!(rt; got, *want);
+        if got != *want {
+            return Err(Fail::new(format_args!("{line}: {got:?}, and not {want:?}")));
+        }
     }
     Ok(())
 }
