@@ -42,3 +42,11 @@ pub member-without : (set p i : ℕ) → set < 2 ^ 8 → member (without set p) 
 member-without set p i small =
     member-and set (all_but 8 p) i ∙ ap (λ t. member set i && t) (member-all_but 8 p i)
     ∙ ⊎_elim (λ few. let h : ltb i 8 ≡ true = lt-ltb i 8 few in rw h) (λ past. let h : member set i ≡ false = member-past set i small past in rw h) (order i 8)
+
+-- ---- what the calls answer, by its members
+
+pub told_with : (r set p : ℕ) → r ≡ with set p → (i : ℕ) → member r i ≡ (member set i || eqb i p && ltb p 8)
+told_with r set p e i = ap (λ s. member s i) e ∙ member-with set p i
+
+pub told_without : (r set p : ℕ) → r ≡ without set p → set < 2 ^ 8 → (i : ℕ) → member r i ≡ (member set i && not (eqb i p))
+told_without r set p e small i = ap (λ s. member s i) e ∙ member-without set p i small

@@ -2,6 +2,7 @@
 use Rattle.std.proofs.Common.{◌≡◌, ℕ, zero, suc, ◌+◌, ◌*◌, ◌/◌, ◌%◌, ◌^◌, ◌<◌, ◌≤◌, List, [], ◌∷◌, length, refl, ap, ◌∙◌, mod-eq_of_lt, mul_assoc, add-mul, pow-suc, add-one, arith}
 use native.Mathlib.Nat.{pow-le-pow_right, pow-succ', mod-one}
 use lib.Arith.{mod-mul, digits_div, digits_mod}
+use Rattle.std.specs.Int.{bytes_high_first}
 use Rattle.std.specs.Int.Digits.{number_from_digits, number_from_digits_after, AllBelowBase}
 use Rattle.std.proofs.lemmas.Int.Digits.{number_lt}
 use Rattle.model.specs.Bytes.{big}
@@ -9,6 +10,12 @@ use Rattle.model.specs.Bytes.{big}
 pub length-big : (k n : ℕ) → length (big k n) ≡ k
 length-big zero n = refl
 length-big (suc k) n = ap suc (length-big k n)
+
+-- the library's bytes of a number are these
+pub high_first : (k n : ℕ) → bytes_high_first k n ≡ big k n
+high_first zero n = refl
+high_first (suc zero) n = let one : n / 1 ≡ n = omega arith in rw one
+high_first (suc (suc k)) n = ap (λ ds. (n / 256 ^ suc k % 256) ∷ ds) (high_first (suc k) n)
 
 positive : (k : ℕ) → 0 < 256 ^ k
 positive zero = omega arith

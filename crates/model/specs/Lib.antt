@@ -1,4 +1,5 @@
 pub mod Bytes
+pub mod Checks
 pub mod Entries
 pub mod Faults
 pub mod Makers

@@ -20,30 +20,7 @@ fn ballot_of(field: u64) -> i32
     if field == 0 { -1 } else { (field - 1) as i32 }
 }
 
-fn three_bytes(n: u32) -> [u8; 3]
-    ensures { result ≡ big 3 n }
-{
-    [
-        (n / 65536 % 256) as u8,
-        (n / 256 % 256) as u8,
-        (n % 256) as u8,
-    ]
-}
-
-fn six_bytes(n: u64) -> [u8; 6]
-    ensures { result ≡ big 6 n }
-{
-    [
-        (n / 1099511627776 % 256) as u8,
-        (n / 4294967296 % 256) as u8,
-        (n / 16777216 % 256) as u8,
-        (n / 65536 % 256) as u8,
-        (n / 256 % 256) as u8,
-        (n % 256) as u8,
-    ]
-}
-
-// The number that a few bytes spell, highest first.
+// The number that a few bytes spell, highest first. (`from_be_bytes` takes four or eight, and so no plainer.)
 fn number_of(bytes: &[u8]) -> u64
     requires { length bytes.now ≤ 6 }
     ensures value { result ≡ number_from_digits 256 bytes.now }
@@ -56,26 +33,18 @@ fn number_of(bytes: &[u8]) -> u64
     n
 }
 
-fn clean_bytes(entry: &Entry) -> [u8; 12]
-    ensures bytes { result ≡ written (clean entry.now) }
-    ensures reads_back { spelled result ≡ clean entry.now }
-{
-    let e = entry.clean();
-    let p = three_bytes(field_of(e.promise));
-    let v = three_bytes(field_of(e.vote));
-    let c = six_bytes(e.code);
-    [
-        p[0], p[1], p[2], v[0], v[1], v[2], c[0], c[1], c[2], c[3], c[4], c[5],
-    ]
-}
-
 impl Entry {
     // The entry's bytes; those of none where the numbers are no entry.
     pub fn to_bytes(&self) -> [u8; 12]
         ensures bytes { result ≡ written (clean self.now) }
         ensures reads_back { spelled result ≡ clean self.now }
     {
-        clean_bytes(self)
+        let e = self.clean();
+        let mut bytes = [0; 12];
+        bytes[..3].copy_from_slice(&field_of(e.promise).to_be_bytes()[1..]);
+        bytes[3..6].copy_from_slice(&field_of(e.vote).to_be_bytes()[1..]);
+        bytes[6..].copy_from_slice(&e.code.to_be_bytes()[2..]);
+        bytes
     }
 
     // What the twelve bytes from this place on spell, or none of it where there are fewer. It need not be an entry.

@@ -11,7 +11,7 @@ pub const NO_BALLOT: i32 = -1;
 // The number above the highest code.
 pub const CODE_LIMIT: u64 = 0x1_0000_0000_0000;
 
-// A promise, a vote and the code of the value voted for. -1 is no ballot.
+// A promise, a vote and the code of the value voted for. -1 is no ballot. (A signed number and no Option, by a rule of the project: so rows, stores and calls have ballots, and compare them.)
 #[derive(Clone, Copy, Debug, PartialEq, Eq)]
 pub struct Entry {
     pub promise: i32,

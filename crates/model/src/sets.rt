@@ -39,14 +39,8 @@ pub fn all_but(n: usize, p: usize) -> u8
 }
 
 // The set with participant p in it. Nobody past 7 can be.
+#[tactic(auto, using(crate::proofs::Changes::told_with))]
 pub fn with(set: u8, p: usize) -> u8
-    ensures value { result ≡ with set p }
-    ensures by_members { (i : ℕ) → member result i ≡ (member set i || i == p && nat_lt p 8) }
-{
-    joined(set, p)
-}
-
-fn joined(set: u8, p: usize) -> u8
     ensures value { result ≡ with set p }
     ensures by_members { (i : ℕ) → member result i ≡ (member set i || i == p && nat_lt p 8) }
 {
@@ -54,14 +48,8 @@ fn joined(set: u8, p: usize) -> u8
 }
 
 // The set with participant p out of it.
+#[tactic(auto, using(crate::proofs::Changes::told_without))]
 pub fn without(set: u8, p: usize) -> u8
-    ensures value { result ≡ without set p }
-    ensures by_members { (i : ℕ) → member result i ≡ (member set i && not (i == p)) }
-{
-    cut(set, p)
-}
-
-fn cut(set: u8, p: usize) -> u8
     ensures value { result ≡ without set p }
     ensures by_members { (i : ℕ) → member result i ≡ (member set i && not (i == p)) }
 {
