@@ -2,7 +2,7 @@
 use Rattle.std.proofs.Common.{◌≡◌, false, ◌&&◌, ℤ, negsuc, Err, refl, ap}
 use mathlib.Core.Bool.{and-false}
 use Rattle.std.specs.Option.{ok_or}
-use Rattle.model.specs.Faults.{out_of_range}
+use Rattle.model.specs.declared.faults.Fault.TheVariants.{OutOfRange}
 use Rattle.model.proofs.Makes.{made_none}
 use Rattle.kinds.specs.Axes.{on_axis, on_axes}
 use Rattle.kinds.specs.Examples.{GlyphExamples, PlaceExamples}
@@ -12,8 +12,8 @@ pub glyph_examples : GlyphExamples
 glyph_examples = ((_, refl, refl), refl)
 
 -- a place with a coordinate off its axis is refused
-pub refused : (x y z : ℤ) → on_axes x y z ≡ false → made_place x y z ≡ Err out_of_range
-refused x y z e = ap (λ o. ok_or o out_of_range) (made_none (on_axes x y z) _ e)
+pub refused : (x y z : ℤ) → on_axes x y z ≡ false → made_place x y z ≡ Err OutOfRange
+refused x y z e = ap (λ o. ok_or o OutOfRange) (made_none (on_axes x y z) _ e)
 
 pub place_examples : PlaceExamples
 place_examples = (

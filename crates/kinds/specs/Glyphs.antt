@@ -2,7 +2,7 @@
 use Rattle.std.specs.Prelude.{ℕ, Option, Result, nat_le}
 use Rattle.std.proofs.Common.{leb→le}
 use Rattle.std.specs.Option.{ok_or}
-use Rattle.model.specs.Faults.{out_of_range}
+use Rattle.model.specs.declared.faults.Fault.TheVariants.{OutOfRange}
 use Rattle.model.specs.Makers.{made_if}
 use Rattle.model.specs.declared.faults.Fault.{Fault}
 use Rattle.kinds.specs.Meaning.{KindMeaning}
@@ -14,7 +14,7 @@ glyph_at c = made_if (nat_le c 65534) (λ t. record { number = c; ok = leb→le 
 
 -- any other is refused
 abbrev pub made_glyph : ℕ → Result Glyph Fault
-made_glyph number = ok_or (glyph_at number) out_of_range
+made_glyph number = ok_or (glyph_at number) OutOfRange
 
 -- kind 1: a glyph number is its own code
 abbrev pub glyph_numbers : KindMeaning Glyph

@@ -1,9 +1,8 @@
 -- Coordinates, places and their codes. Assumes nothing.
 use Rattle.std.specs.Prelude.{◌≡◌, ℕ, ◌+◌, ◌*◌, ◌/◌, ◌%◌, ◌^◌, ◌<◌, Bool, true, false, cond, ◌&&◌, T, ℤ, pos, negsuc, Some, None, FitsSigned, nat_le, nat_lt, refl}
-use Rattle.std.proofs.Common.{ap, sym, subst, ◌∙◌, arith, leb→le, of_z, to_z}
-use denote.Floats.{passes}
-use Rattle.std.proofs.Math.Facts.{and_yes}
-use Rattle.std.specs.Int.{w16, w32}
+use Rattle.std.proofs.Common.{ap, sym, ◌∙◌, arith, leb→le, to_z}
+use Rattle.std.proofs.Math.Facts.{and_yes, Fits-of_z}
+use Rattle.std.specs.Int.{w16}
 use Rattle.std.proofs.lemmas.Bool.{cond-true, ltb-true, lt-ltb}
 use Rattle.std.proofs.lemmas.Int.{to_z-of_z, of_z-to_z}
 use Rattle.model.proofs.Makes.{made_by, made_back}
@@ -17,30 +16,10 @@ pub axis_fits : (z : ℤ) → T (on_axis z) → FitsSigned w16 z
 axis_fits (pos n) t = record { sfits = omega (arith, leb→le n 16384 t) }
 axis_fits (negsuc n) t = record { sfits = omega (arith, leb→le n 16383 (and_yes (nat_le n 16383) true t).0) }
 
--- what 16 bits hold of a number of 32
-abbrev pub narrowed : ℤ → ℤ
-narrowed z = to_z w16 (of_z w16 (to_z w32 (of_z w32 z)))
-
--- on the axis that is the number
-pub stays : (z : ℤ) → FitsSigned w32 z → true ≡ on_axis (to_z w32 (of_z w32 z)) → (narrowed z ≡ z) × T (on_axis (narrowed z))
-stays z f e =
-    let wide : to_z w32 (of_z w32 z) ≡ z = to_z-of_z w32 z f in
-    let on : T (on_axis z) = passes (on_axis z) (ap on_axis (sym wide) ∙ sym e) in
-    let same : narrowed z ≡ z = ap (λ x. to_z w16 (of_z w16 x)) wide ∙ to_z-of_z w16 z (axis_fits z on) in
-    (same, subst (λ x. T (on_axis x)) (sym same) on)
-
 -- a place is made of coordinates on their axes, whatever shows that they are
 pub place_made : (x y z x' y' z' : ℤ) → x' ≡ x → y' ≡ y → z' ≡ z → (ok : T (on_axes x' y' z'))
     → Some (record { first = x'; second = y'; third = z'; ok = ok }) ≡ place_at x y z
 place_made x y z x' y' z' p q r ok = sym (made_by (on_axes x' y' z') _ ok) ∙ (λ i. place_at (p i) (q i) (r i))
-
--- a number of 16 bits is as it was at 32
-pub widened : (x z : ℤ) → FitsSigned w16 x → x ≡ z → to_z w32 (of_z w32 (to_z w16 (of_z w16 x))) ≡ z
-widened x z f e = ap (λ y. to_z w32 (of_z w32 y)) (to_z-of_z w16 x f) ∙ to_z-of_z w32 x (record { sfits = omega (arith, f.sfits) }) ∙ e
-
-bits_below : (z : ℤ) → FitsSigned w16 z → of_z w16 z < 2 ^ 16
-bits_below (pos n) f = omega (arith, f.sfits)
-bits_below (negsuc n) f = omega arith
 
 -- the three pieces of a code
 pieces : (a b c n : ℕ) → n ≡ a * 2 ^ 32 + b * 2 ^ 16 + c → a < 2 ^ 16 → b < 2 ^ 16 → c < 2 ^ 16
@@ -57,7 +36,7 @@ place_pieces p =
     let x = axis_fits p.first u.0 in
     let y = axis_fits p.second u.1 in
     let z = axis_fits p.third t.1 in
-    let k = pieces _ _ _ (place_code p) refl (bits_below p.first x) (bits_below p.second y) (bits_below p.third z) in
+    let k = pieces _ _ _ (place_code p) refl ((Fits-of_z x).fits) ((Fits-of_z y).fits) ((Fits-of_z z).fits) in
     (k.0, ap (to_z w16) k.1 ∙ to_z-of_z w16 p.first x, ap (to_z w16) k.2 ∙ to_z-of_z w16 p.second y, ap (to_z w16) k.3 ∙ to_z-of_z w16 p.third z)
 
 code_back : (p : Place) → place_of_code (place_code p) ≡ Some p

@@ -3,7 +3,7 @@ use Rattle.std.specs.Prelude.{ℕ, ◌+◌, ◌*◌, ◌/◌, ◌%◌, ◌^◌, 
 use Rattle.std.specs.Int.{w16}
 use Rattle.std.proofs.Common.{of_z, to_z}
 use Rattle.std.specs.Option.{ok_or}
-use Rattle.model.specs.Faults.{out_of_range}
+use Rattle.model.specs.declared.faults.Fault.TheVariants.{OutOfRange}
 use Rattle.model.specs.Makers.{made_if}
 use Rattle.model.specs.declared.faults.Fault.{Fault}
 use Rattle.kinds.specs.Axes.{on_axes}
@@ -16,7 +16,7 @@ place_at x y z = made_if (on_axes x y z) (λ t. record { first = x; second = y; 
 
 -- any others are refused
 abbrev pub made_place : ℤ → ℤ → ℤ → Result Place Fault
-made_place x y z = ok_or (place_at x y z) out_of_range
+made_place x y z = ok_or (place_at x y z) OutOfRange
 
 -- 16 bits for each coordinate, in two's complement, the first one highest
 abbrev pub place_code : Place → ℕ

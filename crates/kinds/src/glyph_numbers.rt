@@ -1,5 +1,5 @@
 // The kind of glyph numbers.
-ghost use Rattle.std.specs.Prelude.{◌≡◌};
+ghost use Rattle.std.specs.Prelude.{refl};
 ghost use Rattle.kinds.specs.Glyphs.{glyph_numbers};
 ghost use Rattle.kinds.specs.ValuesLemmas.{glyphs_lawful};
 
@@ -15,16 +15,16 @@ impl Kind for GlyphNumbers {
 
     const NUMBER: u8 = 1;
 
+    ghost NUMBER = { 1 };
+
     ghost means = { glyph_numbers };
+
+    ghost numbered = { refl };
 
     ghost lawful = { glyphs_lawful };
 
-    fn kind_number() -> u8 {
-        1
-    }
-
     fn code(v: Glyph) -> u64 {
-        v.number() as u64
+        u64::from(v.number())
     }
 
     fn value(code: u64) -> Option<Glyph> {

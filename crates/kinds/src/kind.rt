@@ -1,5 +1,5 @@
 // What a kind of value is.
-ghost use Rattle.std.specs.Prelude.{◌≡◌};
+ghost use Rattle.std.specs.Prelude.{◌≡◌, ℕ};
 ghost use Rattle.kinds.specs.Meaning.{KindMeaning, KindLaws};
 
 // A kind: its number in a frame's header, its values, and a code below 2^48 for each of them.
@@ -8,11 +8,9 @@ pub trait Kind {
 
     const NUMBER: u8;
 
-    ghost means: { KindMeaning Self.Value };
+    ghost NUMBER: { ℕ };
 
-    // The kind's number. (A generic proof learns nothing from the constant.)
-    fn kind_number() -> u8
-        ensures { result ≡ means.number };
+    ghost means: { KindMeaning Self.Value };
 
     // The value's code.
     fn code(v: Self::Value) -> u64
@@ -21,6 +19,9 @@ pub trait Kind {
     // The value that has this code, if any.
     fn value(code: u64) -> Option<Self::Value>
         ensures { result ≡ means.value code };
+
+    // The constant is the meaning's number.
+    ghost numbered: { NUMBER ≡ means.number };
 
     ghost lawful: { KindLaws means };
 }

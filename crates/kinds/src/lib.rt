@@ -6,7 +6,6 @@ pub mod glyph_numbers;
 pub mod kind;
 pub mod master_places;
 pub mod place;
-mod refusal;
 
 #[cfg(test)]
 mod tests {

@@ -1,6 +1,6 @@
 -- Worked examples of quorum rules. Assumes nothing.
 use Rattle.std.specs.Prelude.{◌≡◌, ℕ, Bool, true, false, [], ◌∷◌, is_ok, Ok, Err}
-use Rattle.model.specs.Faults.{no_rule}
+use Rattle.model.specs.declared.faults.Fault.TheVariants.{NoRule}
 use Rattle.model.specs.Sets.{member}
 use Rattle.quorums.specs.Majorities.{majority, made_majority}
 use Rattle.quorums.specs.WeightedRules.{made_weighted}
@@ -16,4 +16,4 @@ MajorityExamples = (q : Majority) × (made_majority 4 ≡ Ok q) × Says q 3 fals
 
 -- with weights 3, 1 and 1 thresholds 3 and 3 make a rule, 2 and 3 do not
 abbrev pub WeightedExamples : Type 0
-WeightedExamples = (is_ok (made_weighted (3 ∷ 1 ∷ 1 ∷ []) 3 3) ≡ true) × (made_weighted (3 ∷ 1 ∷ 1 ∷ []) 2 3 ≡ Err no_rule)
+WeightedExamples = (is_ok (made_weighted (3 ∷ 1 ∷ 1 ∷ []) 3 3) ≡ true) × (made_weighted (3 ∷ 1 ∷ 1 ∷ []) 2 3 ≡ Err NoRule)

@@ -1,7 +1,6 @@
 -- The majority rule as a rule by weight. Assumes nothing.
 use Rattle.std.specs.Prelude.{◌≡◌, ℕ, zero, suc, ◌+◌, ◌*◌, ◌/◌, ◌≤◌, T, nat_le, nat_lt, refl}
-use Rattle.std.proofs.Common.{subst, ◌∙◌, arith, leb→le}
-use Rattle.std.proofs.Math.Facts.{and_yes}
+use Rattle.std.proofs.Common.{subst, ◌∙◌, arith}
 use Rattle.std.proofs.lemmas.Bool.Decides.{nat_tests}
 use Rattle.quorums.specs.Meaning.{RuleLaws}
 use Rattle.quorums.specs.Sizes.{is_size}
@@ -12,10 +11,10 @@ use Rattle.model.proofs.Masks.{sum_more}
 
 -- what a rule's size tells
 pub size_least : (n : ℕ) → T (is_size n) → 2 ≤ n
-size_least n t = leb→le 2 n (and_yes (nat_le 2 n) (nat_le n 7) t).0
+size_least n t = grind (arith, nat_tests)
 
 pub size_most : (n : ℕ) → T (is_size n) → n ≤ 7
-size_most n t = leb→le n 7 (and_yes (nat_le 2 n) (nat_le n 7) t).1
+size_most n t = grind (arith, nat_tests)
 
 -- each of n weighs 1
 pub heads : (n : ℕ) → total (λ i. 1) n ≡ n

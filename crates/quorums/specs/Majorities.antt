@@ -1,7 +1,7 @@
 -- The majority rule. Assumes nothing.
 use Rattle.std.specs.Prelude.{ℕ, ◌*◌, Bool, Result, nat_lt}
 use Rattle.std.specs.Option.{ok_or}
-use Rattle.model.specs.Faults.{no_rule}
+use Rattle.model.specs.declared.faults.Fault.TheVariants.{NoRule}
 use Rattle.model.specs.Makers.{made_if}
 use Rattle.model.specs.declared.faults.Fault.{Fault}
 use Rattle.quorums.specs.Meaning.{RuleMeaning}
@@ -11,7 +11,7 @@ use Rattle.quorums.specs.declared.majority.Majority.{Majority}
 
 -- the rule for n participants, where n is 2 to 7
 abbrev pub made_majority : ℕ → Result Majority Fault
-made_majority n = ok_or (made_if (is_size n) (λ t. record { n = n; ok = t })) no_rule
+made_majority n = ok_or (made_if (is_size n) (λ t. record { n = n; ok = t })) NoRule
 
 -- twice as many as are in the set are more than all
 abbrev pub more_than_half : Majority → (ℕ → Bool) → Bool

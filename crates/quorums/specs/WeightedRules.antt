@@ -1,7 +1,7 @@
 -- The weighted rule. Assumes nothing.
 use Rattle.std.specs.Prelude.{ℕ, List, length, Result}
 use Rattle.std.specs.Option.{ok_or}
-use Rattle.model.specs.Faults.{no_rule}
+use Rattle.model.specs.declared.faults.Fault.TheVariants.{NoRule}
 use Rattle.model.specs.Makers.{made_if}
 use Rattle.model.specs.declared.faults.Fault.{Fault}
 use Rattle.quorums.specs.Meaning.{RuleMeaning}
@@ -14,7 +14,7 @@ abbrev pub made_weighted : List ℕ → ℕ → ℕ → Result Weighted Fault
 made_weighted ws promise choose =
     ok_or
     (made_if (stands (length ws) (seven ws) promise choose) (λ t. record { n = length ws; weights = seven ws; promise = promise; choose = choose; ok = t }))
-    no_rule
+    NoRule
 
 -- a set suffices that weighs at least the threshold
 abbrev pub weighted : RuleMeaning Weighted

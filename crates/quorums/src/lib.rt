@@ -2,7 +2,6 @@
 #![tactic(auto)]
 
 pub mod majority;
-mod refusal;
 pub mod rule;
 pub mod weighted;
 
