@@ -1,9 +1,11 @@
 // What a session answers to a line.
 #![tactic(auto)]
 
-ghost use Rattle.std.specs.Prelude.{Some};
+ghost use Rattle.std.specs.Prelude.{◌≡◌, Some};
 ghost use Rattle.answers.specs.Texts.{text};
+ghost use Rattle.answers.specs.declared.Answer.TheVariants.{No};
 
+use model::faults::Fault;
 use std::fmt;
 
 // The answer to one line of a script.
@@ -11,8 +13,10 @@ use std::fmt;
 pub enum Answer {
     // The line cannot be read, or has no place here.
     Bad,
-    // Refused, with the refusal's number.
-    No(u8),
+    // Refused.
+    No(Fault),
+    // No round is held to accept or abandon.
+    NoRound,
     // Taken, with nothing to tell.
     Done,
     // Taken: for how many addressees a frame was kept.
@@ -25,13 +29,22 @@ pub enum Answer {
     Open,
 }
 
+impl From<Fault> for Answer {
+    ghost from_gives = { λ fault answer. answer ≡ No fault };
+
+    fn from(fault: Fault) -> Answer {
+        Answer::No(fault)
+    }
+}
+
 impl fmt::Display for Answer {
     ghost output = { λ a. Some (text a) };
 
     fn fmt<W: fmt::Write>(&self, f: &mut fmt::Formatter<W>) -> fmt::Result {
         match self {
             Answer::Bad => write!(f, "bad"),
-            Answer::No(number) => write!(f, "no {number}"),
+            Answer::No(fault) => write!(f, "no {}", fault.number()),
+            Answer::NoRound => write!(f, "no 0"),
             Answer::Done => write!(f, "ok"),
             Answer::Kept(kept) => write!(f, "ok {kept}"),
             Answer::Carried(value, kept) => write!(f, "ok {value} {kept}"),

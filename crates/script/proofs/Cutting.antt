@@ -1,91 +1,72 @@
 -- Cutting bytes at a mark: one piece after the other, and that these pieces are the only ones. Assumes nothing.
-use Rattle.std.proofs.Common.{◌≡◌, ℕ, zero, suc, ◌+◌, ◌<◌, ◌≤◌, Bool, true, false, cond, eqb, List, [], ◌∷◌, ◌++◌, length, get_or, take, drop, sym, refl, ap, ◌∙◌, add-one, arith}
+use Rattle.std.proofs.Common.{◌≡◌, ℕ, zero, suc, ◌+◌, ◌<◌, Bool, true, false, cond, eqb, List, [], ◌∷◌, ◌++◌, length, get_or, take, drop, Some, None, sym, refl, ap, ◌∙◌, add-one, arith}
 use Rattle.std.specs.Str.Iter.{LacksByte}
-use Rattle.std.specs.List.{join_with_byte, AllByRecursion}
-use Rattle.std.proofs.lemmas.List.{at_drop_more, at_drop_all}
+use Rattle.std.specs.List.{join_with_byte, All, slice_split, onto_first, position}
 use Rattle.std.proofs.lemmas.Bool.{eqb-true, eqb-false, ne_eqb, eq-eqb}
+use Rattle.std.proofs.lemmas.List.Elements.{All-nil, All-cons, All-head, All-tail, All-from_get_or}
+use Rattle.std.proofs.lemmas.Bool.Decides.{nat_tests}
+use Rattle.std.proofs.lemmas.Grind.{common_steps}
+use Rattle.std.proofs.lemmas.List.Sums.{fails_before_first}
+use Rattle.std.proofs.lemmas.List.Quantifiers.{position-Some}
+use Rattle.std.proofs.lemmas.List.Splits.{slice_split_none, slice_split_at, join_with_byte-slice_split}
+use Rattle.std.proofs.Math.Seq.{split_at}
 use Rattle.script.specs.Pieces.{front, others, cut, CutAt}
 
--- the search for the first mark: at the mark, past another byte, at the end
-module _ (mark : ℕ) (bs : List ℕ) (i : ℕ) where
-  pub front_at : i < length bs → get_or bs i 0 ≡ mark → length (front mark (drop i bs)) ≡ 0
-  front_at l e = rw (at_drop_more (front mark) bs i 0 l, eq-eqb (get_or bs i 0) mark e)
+-- the pieces are those that std's `split` gives
+split_more : (t : Bool) (b : ℕ) (p : List ℕ) (ps : List (List ℕ)) → cond t [] (b ∷ p) ∷ cond t (p ∷ ps) ps ≡ cond t ([] ∷ p ∷ ps) (onto_first b (p ∷ ps))
+split_more true b p ps = refl
+split_more false b p ps = refl
 
-  pub front_past : i < length bs → (get_or bs i 0 ≡ mark → ⊥) → length (front mark (drop i bs)) ≡ suc (length (front mark (drop (i + 1) bs)))
-  front_past l n = rw (at_drop_more (front mark) bs i 0 l, ne_eqb (get_or bs i 0) mark n)
+cut_is_split : (mark : ℕ) (bs : List ℕ) → cut mark bs ≡ slice_split (λ b. eqb b mark) bs
+cut_is_split mark [] = refl
+cut_is_split mark (b ∷ bs) = split_more (eqb b mark) b (front mark bs) (others mark bs) ∙ ap (λ ps. cond (eqb b mark) ([] ∷ ps) (onto_first b ps)) (cut_is_split mark bs)
 
-  pub front_end : length bs ≤ i → length (front mark (drop i bs)) ≡ 0
-  front_end l = ap length (at_drop_all (front mark) bs i l)
+-- the first piece ends at the first mark
+module _ (mark : ℕ) (bs : List ℕ) where
+  abbrev at_mark : ℕ → Bool
+  at_mark b = eqb b mark
 
--- first, of n bytes, and behind are the pieces of bs
-record Parted (mark : ℕ) (bs : List ℕ) (n : ℕ) (first : List ℕ) (behind : List (List ℕ)) : Type 0 where
-  marked : n < length bs → bs ≡ take n bs ++ mark ∷ drop (n + 1) bs
-  within : n < length bs → (first ≡ take n bs) × (behind ≡ cut mark (drop (n + 1) bs))
-  whole : length bs ≤ n → (first ≡ bs) × (behind ≡ [])
+  pub split_found : (at : ℕ) → Some at ≡ position at_mark bs → (bs ≡ take at bs ++ mark ∷ drop (at + 1) bs) × (cut mark bs ≡ take at bs ∷ cut mark (drop (at + 1) bs))
+  split_found at e =
+      let found = position-Some at_mark bs at 0 (sym e) in
+      let here : get_or bs at 0 ≡ mark = eqb-true (get_or bs at 0) mark found.1 in
+      let parts : bs ≡ take at bs ++ mark ∷ drop (at + 1) bs = rw (add-one, ← here) (split_at bs at 0 found.0) in
+      let none : All (λ b. at_mark b ≡ false) (take at bs) = All-from_get_or (λ b. at_mark b ≡ false) (take at bs) 0 (λ k l. grind (arith, common_steps, found.2 k)) in
+      (parts, ap (cut mark) parts ∙ cut_is_split mark _ ∙ slice_split_at at_mark (take at bs) mark (drop (at + 1) bs) none (eq-eqb mark mark refl) ∙ ap (λ ps. take at bs ∷ ps) (sym (cut_is_split mark (drop (at + 1) bs))))
 
-parted_more : (mark b : ℕ) (bs : List ℕ) (t : Bool) → eqb b mark ≡ t → Parted mark bs (length (front mark bs)) (front mark bs) (others mark bs) → Parted mark (b ∷ bs) (length (cond t [] (b ∷ front mark bs))) (cond t [] (b ∷ front mark bs)) (cond t (cut mark bs) (others mark bs))
-parted_more mark b bs true e h = record { marked = λ _. ap (λ x. x ∷ bs) (eqb-true b mark e); within = λ _. (refl, refl); whole = λ l. absurd (omega arith) }
-parted_more mark b bs false e h = record {
-  marked = λ l. rw add-one (rw add-one at (ap (λ xs. b ∷ xs) (h.marked (omega arith))));
-  within = λ l. let p = h.within (omega arith) in (ap (λ xs. b ∷ xs) p.0, rw add-one (rw add-one at p.1));
-  whole = λ l. let p = h.whole (omega arith) in (ap (λ xs. b ∷ xs) p.0, p.1);
-}
+  pub split_missing : None ≡ position at_mark bs → cut mark bs ≡ bs ∷ []
+  split_missing e = cut_is_split mark bs ∙ slice_split_none at_mark bs (All-from_get_or (λ b. at_mark b ≡ false) bs 0 (λ k l. grind (arith, nat_tests, fails_before_first at_mark bs k 0)))
 
-parted : (mark : ℕ) (bs : List ℕ) → Parted mark bs (length (front mark bs)) (front mark bs) (others mark bs)
-parted mark [] = record { marked = λ l. absurd (omega arith); within = λ l. absurd (omega arith); whole = λ l. (refl, refl) }
-parted mark (b ∷ bs) = parted_more mark b bs (eqb b mark) refl (parted mark bs)
-
-pub split_within : (mark : ℕ) (bs : List ℕ) (n : ℕ) → n ≡ length (front mark bs) → n < length bs → (bs ≡ take n bs ++ mark ∷ drop (n + 1) bs) × (cut mark bs ≡ take n bs ∷ cut mark (drop (n + 1) bs))
-split_within mark bs n e l =
-    let p = rw (← e) at (parted mark bs) in
-    let q = p.within l in
-    (p.marked l, λ i. q.0 i ∷ q.1 i)
-
-pub split_whole : (mark : ℕ) (bs : List ℕ) → length bs ≤ length (front mark bs) → cut mark bs ≡ bs ∷ []
-split_whole mark bs l = let q = (parted mark bs).whole l in λ i. q.0 i ∷ q.1 i
-
--- put together again
-rejoined_onto : (mark b : ℕ) (p : List ℕ) (ps : List (List ℕ)) → join_with_byte mark ((b ∷ p) ∷ ps) ≡ b ∷ join_with_byte mark (p ∷ ps)
-rejoined_onto mark b p [] = refl
-rejoined_onto mark b p (q ∷ ps) = refl
-
+-- none holds a mark
 lacks_cons : (mark b : ℕ) (bs : List ℕ) → (b ≡ mark → ⊥) → LacksByte mark bs → LacksByte mark (b ∷ bs)
 lacks_cons mark b bs n h zero l e = n e
 lacks_cons mark b bs n h (suc k) l e = h k (omega arith) e
 
-abbrev Sound : ℕ → List ℕ → List (List ℕ) → Type 0
-Sound mark bs ps = (join_with_byte mark ps ≡ bs) × AllByRecursion (LacksByte mark) ps
+clean_more : (mark b : ℕ) (p : List ℕ) (ps : List (List ℕ)) (t : Bool) → eqb b mark ≡ t → All (LacksByte mark) (p ∷ ps) → All (LacksByte mark) (cond t [] (b ∷ p) ∷ cond t (p ∷ ps) ps)
+clean_more mark b p ps true e h = All-cons (LacksByte mark) [] (p ∷ ps) (λ k l. absurd (omega arith)) h
+clean_more mark b p ps false e h = All-cons (LacksByte mark) (b ∷ p) ps (lacks_cons mark b p (eqb-false b mark e) (All-head (LacksByte mark) p ps h)) (All-tail (LacksByte mark) p ps h)
 
-sound_more : (mark b : ℕ) (bs : List ℕ) (t : Bool) → eqb b mark ≡ t → Sound mark bs (cut mark bs) → Sound mark (b ∷ bs) (cond t [] (b ∷ front mark bs) ∷ cond t (cut mark bs) (others mark bs))
-sound_more mark b bs true e h = (λ i. sym (eqb-true b mark e) i ∷ h.0 i, ((λ k l _. absurd (omega arith)), h.1))
-sound_more mark b bs false e h = (rejoined_onto mark b (front mark bs) (others mark bs) ∙ ap (λ xs. b ∷ xs) h.0, (lacks_cons mark b (front mark bs) (eqb-false b mark e) h.1.0, h.1.1))
+clean : (mark : ℕ) (bs : List ℕ) → All (LacksByte mark) (cut mark bs)
+clean mark [] = All-cons (LacksByte mark) [] [] (λ k l. absurd (omega arith)) (All-nil (LacksByte mark))
+clean mark (b ∷ bs) = clean_more mark b (front mark bs) (others mark bs) (eqb b mark) refl (clean mark bs)
 
-sound : (mark : ℕ) (bs : List ℕ) → Sound mark bs (cut mark bs)
-sound mark [] = (refl, ((λ k l e. absurd (omega arith)), tt))
-sound mark (b ∷ bs) = sound_more mark b bs (eqb b mark) refl (sound mark bs)
+-- pieces with no mark in them, put together and cut again
+none_is : (mark : ℕ) (bs : List ℕ) → LacksByte mark bs → All (λ b. eqb b mark ≡ false) bs
+none_is mark bs h = All-from_get_or (λ b. eqb b mark ≡ false) bs 0 (λ i l. ne_eqb (get_or bs i 0) mark (h i l))
 
--- bytes with no mark in them
-cut_onto : (mark b : ℕ) (bs : List ℕ) {p : List ℕ} {ps : List (List ℕ)} → (b ≡ mark → ⊥) → (front mark bs ≡ p) × (others mark bs ≡ ps) → (front mark (b ∷ bs) ≡ b ∷ p) × (others mark (b ∷ bs) ≡ ps)
-cut_onto mark b bs n h = rw (ne_eqb b mark n) (ap (λ xs. b ∷ xs) h.0, h.1)
+rejoined : (mark : ℕ) (ps : List (List ℕ)) → 0 < length ps → All (LacksByte mark) ps → slice_split (λ b. eqb b mark) (join_with_byte mark ps) ≡ ps
+rejoined mark [] l h = absurd (omega arith)
+rejoined mark (p ∷ []) l h = slice_split_none (λ b. eqb b mark) p (none_is mark p (All-head (LacksByte mark) p [] h))
+rejoined mark (p ∷ q ∷ ps) l h =
+    slice_split_at (λ b. eqb b mark) p mark (join_with_byte mark (q ∷ ps)) (none_is mark p (All-head (LacksByte mark) p (q ∷ ps) h)) (eq-eqb mark mark refl)
+    ∙ ap (λ xs. p ∷ xs) (rejoined mark (q ∷ ps) (omega arith) (All-tail (LacksByte mark) p (q ∷ ps) h))
 
-cut_lacking : (mark : ℕ) (bs : List ℕ) → LacksByte mark bs → (front mark bs ≡ bs) × (others mark bs ≡ [])
-cut_lacking mark [] h = (refl, refl)
-cut_lacking mark (b ∷ bs) h = cut_onto mark b bs (h 0 (omega arith)) (cut_lacking mark bs (λ k l e. h (suc k) (omega arith) e))
-
-cut_append : (mark : ℕ) (bs rest : List ℕ) → LacksByte mark bs → (front mark (bs ++ mark ∷ rest) ≡ bs) × (others mark (bs ++ mark ∷ rest) ≡ cut mark rest)
-cut_append mark [] rest h = rw (eq-eqb mark mark refl) (refl, refl)
-cut_append mark (b ∷ bs) rest h = cut_onto mark b (bs ++ mark ∷ rest) (h 0 (omega arith)) (cut_append mark bs rest (λ k l e. h (suc k) (omega arith) e))
-
-cut_rejoined : (mark : ℕ) (ps : List (List ℕ)) → 0 < length ps → AllByRecursion (LacksByte mark) ps → cut mark (join_with_byte mark ps) ≡ ps
-cut_rejoined mark [] l h = absurd (omega arith)
-cut_rejoined mark (p ∷ []) l h = let q = cut_lacking mark p h.0 in λ i. q.0 i ∷ q.1 i
-cut_rejoined mark (p ∷ q ∷ ps) l h =
-    let r = cut_append mark p (join_with_byte mark (q ∷ ps)) h.0 in
-    (λ i. r.0 i ∷ r.1 i) ∙ ap (λ xs. p ∷ xs) (cut_rejoined mark (q ∷ ps) (omega arith) h.1)
+cut_rejoined : (mark : ℕ) (ps : List (List ℕ)) → 0 < length ps → All (LacksByte mark) ps → cut mark (join_with_byte mark ps) ≡ ps
+cut_rejoined mark ps l h = cut_is_split mark (join_with_byte mark ps) ∙ rejoined mark ps l h
 
 pub cut_law : (mark : ℕ) (bs : List ℕ) → CutAt mark bs (cut mark bs)
 cut_law mark bs = record {
-  whole = (sound mark bs).0;
-  clean = (sound mark bs).1;
+  whole = ap (join_with_byte mark) (cut_is_split mark bs) ∙ join_with_byte-slice_split mark bs;
+  clean = clean mark bs;
   only = λ qs l h e. sym (cut_rejoined mark qs l h) ∙ ap (cut mark) e;
 }

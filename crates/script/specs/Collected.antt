@@ -1,5 +1,6 @@
 -- The line that is being collected from the blocks of an input. Assumes nothing.
-use Rattle.std.specs.Prelude.{◌≡◌, ℕ, ◌+◌, ◌≤◌, Bool, true, false, cond, List, [], ◌++◌, length, take, drop, Some, None, Option, nat_le, nat_lt}
+use Rattle.std.specs.Prelude.{◌≡◌, ℕ, ◌+◌, ◌≤◌, Bool, true, cond, List, [], ◌++◌, length, drop, Some, None, Option, nat_le, nat_lt}
+use Rattle.std.specs.Option.{option_map}
 use Rattle.script.specs.declared.lines.Lines.{Lines}
 use Rattle.script.specs.Pieces.{front, others, cut, newline}
 
@@ -12,14 +13,9 @@ abbrev pub added : Option (List ℕ) → List ℕ → Option (List ℕ)
 added None more = None
 added (Some line) more = kept (line ++ more)
 
--- whether so many more would be kept
-abbrev pub fits : Option (List ℕ) → ℕ → Bool
-fits None n = false
-fits (Some line) n = nat_le (length line + n) 80
-
 -- what is kept of the bytes since the last clear
 abbrev pub collected : Lines → Option (List ℕ)
-collected lines = cond lines.too_long None (Some (take lines.len lines.bytes))
+collected lines = option_map (λ line. line.items) lines.line
 
 -- whether there are any
 abbrev pub begun : Option (List ℕ) → Bool

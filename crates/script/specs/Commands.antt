@@ -1,5 +1,6 @@
 -- The commands of a script, and the lines that spell them. Assumes nothing.
-use Rattle.std.specs.Prelude.{◌≡◌, ℕ, cond, List, [], ◌∷◌, map, Some, None, codes, Option}
+use Rattle.std.specs.Prelude.{◌≡◌, ℕ, List, [], ◌∷◌, map, Some, None, codes, Option}
+use Rattle.std.specs.List.{find}
 use Rattle.std.specs.Str.{bytes_eq}
 use Rattle.script.specs.declared.command.Command.{Command}
 use Rattle.script.specs.declared.command.Command.TheVariants.{New, Prepare, Accept, Abandon, Deliver, Read}
@@ -52,8 +53,7 @@ taking (a ∷ b ∷ c ∷ []) = Prepare a b c ∷ Accept a b c ∷ []
 taking (a ∷ b ∷ c ∷ d ∷ ns) = []
 
 abbrev pub named : List ℕ → List Command → Option Command
-named w [] = None
-named w (c ∷ cs) = cond (bytes_eq w (name c)) (Some c) (named w cs)
+named w cs = find (λ c. bytes_eq w (name c)) cs
 
 abbrev pub called : List ℕ → Option (List ℕ) → Option Command
 called w None = None

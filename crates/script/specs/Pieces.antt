@@ -2,7 +2,7 @@
 use Rattle.std.specs.Prelude.{◌≡◌, ℕ, ◌<◌, cond, List, [], ◌∷◌, ◌++◌, length, Some, None, Option, ◌==◌}
 use Rattle.std.specs.Borrow.{Bor}
 use Rattle.std.specs.Str.Iter.{LacksByte}
-use Rattle.std.specs.List.{join_with_byte, AllByRecursion}
+use Rattle.std.specs.List.{join_with_byte, All}
 
 -- the bytes before the first mark
 abbrev pub front : ℕ → List ℕ → List ℕ
@@ -36,5 +36,5 @@ pieces line = cut space line
 -- these are the pieces of bs: put together again they are bs, none holds a mark, and there are no others
 pub record CutAt (mark : ℕ) (bs : List ℕ) (ps : List (List ℕ)) : Type 0 where
   pub whole : join_with_byte mark ps ≡ bs
-  pub clean : AllByRecursion (LacksByte mark) ps
-  pub only : (qs : List (List ℕ)) → 0 < length qs → AllByRecursion (LacksByte mark) qs → join_with_byte mark qs ≡ bs → qs ≡ ps
+  pub clean : All (LacksByte mark) ps
+  pub only : (qs : List (List ℕ)) → 0 < length qs → All (LacksByte mark) qs → join_with_byte mark qs ≡ bs → qs ≡ ps

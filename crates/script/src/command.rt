@@ -2,7 +2,6 @@
 ghost use Rattle.script.specs.Commands.{command_of, ReadsAs, named, taking, listed, Gathers};
 ghost use Rattle.script.specs.Pieces.{pieces};
 ghost use Rattle.script.specs.Reading.{to_come};
-ghost use Rattle.std.specs.Str.{bytes_eq};
 ghost use Rattle.std.specs.Prelude.{◌≡◌, [], ◌∷◌};
 
 use crate::words::{Word, Words};
@@ -18,7 +17,7 @@ pub enum Command {
     Read { p: u32, c: u32 },
 }
 
-// The numbers that end a line.
+// The numbers that end a line: a command takes two or three.
 #[derive(Clone, Copy)]
 enum Numbers {
     Two(u32, u32),
@@ -36,8 +35,7 @@ impl Command {
 
     // What words spell: a name, and numbers behind it.
     fn of_words(mut words: Words) -> Option<Command>
-        ensures value { result ≡ command_of (to_come words.entry) }
-        ensures law { ReadsAs (to_come words.entry) result }
+        ensures { result ≡ command_of (to_come words.entry) }
     {
         match words.next_word()? {
             Word::Text(name) => Command::called(name, Numbers::read(words)?),
@@ -49,48 +47,16 @@ impl Command {
     fn called(name: &[u8], numbers: Numbers) -> Option<Command>
         ensures { result ≡ named name.now (taking (listed numbers)) }
     {
-        match numbers {
-            Numbers::Two(a, b) => Command::of_two(name, a, b),
-            Numbers::Three(a, b, c) => Command::of_three(name, a, b, c),
+        match (name, numbers) {
+            (b"new", Numbers::Two(n, cells)) => Some(Command::New { n, cells }),
+            (b"prepare", Numbers::Three(p, c, b)) => Some(Command::Prepare { p, c, b }),
+            (b"accept", Numbers::Three(p, c, v)) => Some(Command::Accept { p, c, v }),
+            (b"abandon", Numbers::Two(p, c)) => Some(Command::Abandon { p, c }),
+            (b"deliver", Numbers::Two(q, k)) => Some(Command::Deliver { q, k }),
+            (b"read", Numbers::Two(p, c)) => Some(Command::Read { p, c }),
+            _ => None,
         }
     }
-
-    // The command of two numbers.
-    fn of_two(name: &[u8], a: u32, b: u32) -> Option<Command>
-        ensures { result ≡ named name.now (taking (a ∷ b ∷ [])) }
-    {
-        if is(name, b"new") {
-            Some(Command::New { n: a, cells: b })
-        } else if is(name, b"abandon") {
-            Some(Command::Abandon { p: a, c: b })
-        } else if is(name, b"deliver") {
-            Some(Command::Deliver { q: a, k: b })
-        } else if is(name, b"read") {
-            Some(Command::Read { p: a, c: b })
-        } else {
-            None
-        }
-    }
-
-    // The command of three numbers.
-    fn of_three(name: &[u8], a: u32, b: u32, c: u32) -> Option<Command>
-        ensures { result ≡ named name.now (taking (a ∷ b ∷ c ∷ [])) }
-    {
-        if is(name, b"prepare") {
-            Some(Command::Prepare { p: a, c: b, b: c })
-        } else if is(name, b"accept") {
-            Some(Command::Accept { p: a, c: b, v: c })
-        } else {
-            None
-        }
-    }
-}
-
-// Whether a word is this name.
-fn is(word: &[u8], name: &[u8]) -> bool
-    ensures { result ≡ bytes_eq word.now name.now }
-{
-    word == name
 }
 
 impl Numbers {
@@ -104,10 +70,6 @@ impl Numbers {
             return Some(Numbers::Two(a, b));
         }
         let c = words.next_number()?;
-        if words.at_end() {
-            Some(Numbers::Three(a, b, c))
-        } else {
-            None
-        }
+        words.at_end().then_some(Numbers::Three(a, b, c))
     }
 }

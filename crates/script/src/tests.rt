@@ -61,6 +61,15 @@ fn lines_are_collected(rt: HostRuntime) {
 }
 
 #[test]
+fn the_rest_of_a_block_is_given_back(rt: HostRuntime) {
+    let mut lines = Lines::new();
+    assert_eq!(rt; lines.take(b"a\nbc\n"), Some(&b"bc\n"[..]));
+    assert_eq!(rt; lines.line(), Some(&b"a"[..]));
+    assert_eq!(rt; lines.take(b"bc"), None);
+    assert_eq!(rt; lines.line(), Some(&b"abc"[..]));
+}
+
+#[test]
 fn eighty_bytes_are_the_most(rt: HostRuntime) {
     let mut lines = Lines::new();
     assert_eq!(rt; lines.take_from(&[b'x'; 80], 0), None);

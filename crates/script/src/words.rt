@@ -25,13 +25,6 @@ impl<'a> Words<'a> {
         ensures pieces { to_come result ≡ pieces line.now }
         ensures law { CutAt space line.now (to_come result) }
     {
-        Words::whole(line)
-    }
-
-    fn whole(line: &'a [u8]) -> Words<'a>
-        ensures pieces { to_come result ≡ pieces line.now }
-        ensures law { CutAt space line.now (to_come result) }
-    {
         Words { rest: Some(line) }
     }
 
@@ -41,7 +34,7 @@ impl<'a> Words<'a> {
     {
         let (word, after) = split_first(b' ', self.rest?);
         self.rest = after;
-        Some(read_word(word))
+        Some(Word::from(word))
     }
 
     // The next word's number, if it is one.
@@ -64,28 +57,27 @@ impl<'a> Words<'a> {
 }
 
 // A word of 1 to 8 digits is a number.
-fn read_word(word: &[u8]) -> Word<'_>
-    ensures text { text result ≡ word.now }
-    ensures number { number result ≡ numeral word.now }
-{
-    match number_of(word) {
-        Some(n) => Word::Number(n, word),
-        None => Word::Text(word),
+impl<'a> From<&'a [u8]> for Word<'a> {
+    ghost from_gives = { λ word w. (text w ≡ word.now) × (number w ≡ numeral word.now) };
+
+    fn from(word: &'a [u8]) -> Word<'a> {
+        match number_of(word) {
+            Some(n) => Word::Number(n, word),
+            None => Word::Text(word),
+        }
     }
 }
 
+// The number that a word spells. (`parse` would take a leading + too.)
 fn number_of(word: &[u8]) -> Option<u32>
     ensures { result ≡ numeral word.now }
 {
     if word.is_empty() || word.len() > 8 {
         return None;
     }
-    let mut n = 0u32;
+    let mut n = 0;
     for b in word {
-        if !b.is_ascii_digit() {
-            return None;
-        }
-        n = n * 10 + (*b - b'0') as u32;
+        n = n * 10 + char::from(*b).to_digit(10)?;
     }
     Some(n)
 }
