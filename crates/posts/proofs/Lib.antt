@@ -1,2 +1,4 @@
-pub mod Layers
+pub mod Finding
 pub mod Members
+pub mod Midway
+pub mod Parcels

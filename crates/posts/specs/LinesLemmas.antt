@@ -1,13 +1,13 @@
 -- The line is a post, and what its put has to show. Assumes nothing.
-use Rattle.std.specs.Prelude.{◌≡◌, ℕ, ◌-◌, Bool, true, false, List, length}
+use Rattle.std.specs.Prelude.{◌≡◌, ℕ, ◌-◌, Bool, true, List, length}
 use Rattle.std.proofs.Common.{arith}
 use Rattle.std.proofs.lemmas.Bool.{and_parts}
 use Rattle.posts.specs.Meaning.{PostLaws, Puts, sendable}
-use Rattle.posts.specs.Lines.{line_means, line_items, Queues}
+use Rattle.posts.specs.Lines.{line_means, line_items}
 use Rattle.posts.specs.Midway.{Filling}
 use Rattle.posts.specs.declared.line.Line.{Line}
-use Rattle.posts.specs.ParcelsLemmas.{parcels_sendable}
-use Rattle.posts.specs.Putting.{list_refused, puts_kept, list_kept}
+use Rattle.posts.specs.ParcelsLemmas.{tray_sendable}
+use Rattle.posts.specs.Putting.{puts_kept}
 use Rattle.posts.specs.Filling.{filling_count}
 
 pub line_lawful : PostLaws line_means
@@ -15,17 +15,11 @@ line_lawful =
     record {
       offered = λ line frame to q e. (and_parts (to q) _ (and_parts (sendable frame) _ e).1).0;
       carried = λ line frame to q e. (and_parts (sendable frame) _ e).0;
-      frames = λ line. parcels_sendable _;
+      frames = λ line. tray_sendable line.tray;
     }
 
 module _ (before : Line) (frame : List ℕ) (to : ℕ → Bool) where
-  pub queues_refused : sendable frame ≡ false → Queues before frame to before
-  queues_refused unfit = record { list = list_refused line_means before frame to line_lawful unfit }
-
   module _ (after : Line) (q : ℕ) (all : q ≡ 8) (f : Filling (line_items before) frame to q (line_items after)) where
-    pub queues_filled : Queues before frame to after
-    queues_filled = record { list = list_kept line_means before frame to after 0 q all f.list }
-
     pub puts_filled : (n : ℕ) → sendable frame ≡ true → n ≡ length (line_items after) - length (line_items before) → Puts line_means before frame to n after
     puts_filled n fit added =
         let count = filling_count (line_items before) frame to q (line_items after) f in

@@ -1,6 +1,6 @@
 -- What a post means, the laws that make it one, and what put and take do. Assumes nothing.
 use Rattle.std.specs.Prelude.{◌≡◌, ℕ, ◌<◌, ◌≤◌, Bool, true, false, ◌&&◌, ◌⊎◌, List, [], ◌∷◌, ◌++◌, map, length, take, drop, Some, None, count_by, filter, Option, ◌==◌, nat_le, nat_lt, slice_index_or}
-use Rattle.std.specs.List.{range_with_len, remove, AllByRecursion}
+use Rattle.std.specs.List.{range_with_len, remove, All}
 
 -- a frame on its way to an addressee
 pub record Item : Type 0 where
@@ -34,7 +34,7 @@ pub record PostLaws {P : Type 0} (m : PostMeaning P) : Type 0 where
   -- a frame is kept only for those it is offered to, and only where it can be carried
   pub offered : (p : P) (frame : List ℕ) (to : ℕ → Bool) (q : ℕ) → m.keeps p frame to q ≡ true → to q ≡ true
   pub carried : (p : P) (frame : List ℕ) (to : ℕ → Bool) (q : ℕ) → m.keeps p frame to q ≡ true → sendable frame ≡ true
-  pub frames : (p : P) → AllByRecursion (λ item. sendable item.frame ≡ true) (m.items p)
+  pub frames : (p : P) → All (λ item. sendable item.frame ≡ true) (m.items p)
 
 -- the first list is the second with items gone
 pub data Thinned : List Item → List Item → Type 0 where

@@ -1,52 +1,23 @@
--- Parcels in a list, and the items that they mean. Assumes nothing.
-use Rattle.std.specs.Prelude.{◌≡◌, ℕ, ◌+◌, ◌<◌, ◌≤◌, true, false, List, [], ◌∷◌, ◌++◌, map, length, take, slice_index_or}
-use Rattle.std.proofs.Common.{ap, sym, ◌∙◌, arith, rules}
-use Rattle.std.specs.List.{remove, AllByRecursion}
-use Rattle.std.proofs.lemmas.List.{get_or-map, take_all, length-take-le, map-append, take-map, drop-map, map_push, length-map}
-use Rattle.std.proofs.lemmas.List.Sums.{count_by_more_yes, count_by_more_no}
-use Rattle.std.proofs.lemmas.Bool.{and_from, lt-ltb, le-leb}
-use Rattle.posts.specs.Meaning.{Item, no_item, is_for, waiting, sendable}
+-- What parcels and trays hold can be carried. Assumes nothing.
+use Rattle.std.specs.Prelude.{◌≡◌, true, List, map}
+use Rattle.std.specs.List.{All}
+use Rattle.std.proofs.lemmas.List.Elements.{All-map}
+use Rattle.std.proofs.Common.{get_or}
+use Rattle.posts.specs.Meaning.{Item, sendable}
 use Rattle.posts.specs.Parcels.{meant}
 use Rattle.posts.specs.Trays.{tray_items}
+use Rattle.posts.specs.declared.parcel.Parcel.TheInside.{Inside}
 use Rattle.posts.specs.declared.tray.Tray.{Tray}
-use Rattle.posts.specs.declared.parcel.Parcel.{Parcel}
 
-module _ (ps : List Parcel) (i : ℕ) where
-  -- the item that a parcel read at i means
-  pub meant_at : (p : Parcel) → i < length ps → p ≡ slice_index_or ps i p → slice_index_or (map meant ps) i no_item ≡ meant p
-  meant_at p h read = get_or-map meant ps i p no_item h ∙ ap meant (sym read)
+abbrev Carried : Item → Type 0
+Carried item = sendable item.frame ≡ true
 
-  pub within_map : i < length ps → i < length (map meant ps)
-  within_map h = simp length-map h
+-- a parcel's fields, with what its type knows of them
+abbrev pub Whole : Type 0
+Whole = (p : Inside) × (sendable p.frame.items ≡ true)
 
-  -- one more parcel, for q or not
-  pub waiting_yes : (q : ℕ) (p : Parcel) → i < length ps → p ≡ slice_index_or ps i p → true ≡ is_for q (meant p) → waiting q (take (i + 1) (map meant ps)) ≡ waiting q (take i (map meant ps)) + 1
-  waiting_yes q p h read for = count_by_more_yes (is_for q) (map meant ps) i no_item (within_map h) (ap (is_for q) (meant_at p h read) ∙ sym for)
+pub parcels_sendable : (ps : List Whole) → All (λ item. sendable item.frame ≡ true) (map (λ p. meant p.0) ps)
+parcels_sendable ps = All-map Carried (λ (p : Whole). meant p.0) ps (λ k d lt. (get_or ps k d).1)
 
-  pub waiting_no : (q : ℕ) (p : Parcel) → i < length ps → p ≡ slice_index_or ps i p → false ≡ is_for q (meant p) → waiting q (take (i + 1) (map meant ps)) ≡ waiting q (take i (map meant ps))
-  waiting_no q p h read for = count_by_more_no (is_for q) (map meant ps) i no_item (within_map h) (ap (is_for q) (meant_at p h read) ∙ sym for)
-
-  pub waiting_all : (q : ℕ) → length ps ≤ i → waiting q (take i (map meant ps)) ≡ waiting q (map meant ps)
-  waiting_all q h = ap (waiting q) (take_all i (map meant ps) (simp length-map h))
-
--- every parcel holds a frame that can be carried
-pub parcels_sendable : (ps : List Parcel) → AllByRecursion (λ item. sendable item.frame ≡ true) (map meant ps)
-parcels_sendable [] = tt
-parcels_sendable (p ∷ ps) =
-    let some = p.some in
-    let short = p.short in
-    let whole = p.whole in
-    let long : length (take p.len p.bytes) ≡ p.len = length-take-le p.len p.bytes (omega arith) in
-    (rw long (and_from _ _ (lt-ltb 0 p.len (omega arith)) (le-leb p.len 88 short)), parcels_sendable ps)
-
--- taking a parcel out takes its item out
-pub meant_removed : (ps : List Parcel) (i : ℕ) → map meant (remove ps i) ≡ remove (map meant ps) i
-meant_removed ps i = simp (map-append, take-map, drop-map)
-
--- a parcel pushed is its item pushed
-pub meant_push : (ps qs : List Parcel) (p : Parcel) (item : Item) → qs ≡ ps ++ p ∷ [] → meant p ≡ item → map meant qs ≡ map meant ps ++ item ∷ []
-meant_push ps qs p item pushed is = ap (map meant) pushed ∙ map_push meant ps p ∙ ap (λ x. map meant ps ++ x ∷ []) is
-
--- a tray holds at most 64 items
-pub tray_few : (tray : Tray) → length (tray_items tray) ≤ 64
-tray_few tray = simp length-map (search rules)
+pub tray_sendable : (tray : Tray) → All (λ item. sendable item.frame ≡ true) (tray_items tray)
+tray_sendable tray = tray.carried

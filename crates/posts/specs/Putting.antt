@@ -42,9 +42,6 @@ module _ {P : Type 0} (m : PostMeaning P) (before : P) (frame : List ℕ) (to : 
       not_kept false e = refl
       not_kept true e = absurd (both_ways (sendable frame) unfit (laws.carried before frame to q e))
 
-  pub list_refused : PostLaws m → sendable frame ≡ false → m.items before ≡ m.items before ++ map (addressed frame) (kept m before frame to)
-  list_refused laws unfit = list_nobody (not_carried laws unfit)
-
   pub puts_refused : PostLaws m → sendable frame ≡ false → Puts m before frame to 0 before
   puts_refused laws unfit = puts_nobody (not_carried laws unfit)
 

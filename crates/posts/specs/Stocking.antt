@@ -1,25 +1,25 @@
 -- A shelf while the addressees are gone through, and what its put has to show. Assumes nothing.
-use Rattle.std.specs.Prelude.{◌≡◌, ℕ, ◌+◌, ◌-◌, ◌≤◌, Bool, true, false, ◌&&◌, List, [], ◌∷◌, ◌++◌, map, length, drop, count_by, filter, nat_lt, refl}
-use Rattle.std.proofs.Common.{ap, sym, ◌∙◌, append-nil, append_assoc, inl, inr, arith, length-append, length-drop}
+use Rattle.std.specs.Prelude.{◌≡◌, ℕ, ◌+◌, ◌-◌, ◌≤◌, Bool, true, false, cond, ◌&&◌, List, [], ◌∷◌, ◌++◌, map, length, drop, count_by, filter, nat_lt, refl}
+use Rattle.std.proofs.Common.{ap, sym, ◌∙◌, append_assoc, inl, inr, arith, length-append, length-drop}
 use Rattle.std.specs.List.{range_with_len}
 use Rattle.std.proofs.lemmas.List.FromFn.{length-range_with_len}
 use Rattle.std.proofs.lemmas.List.{length_push, map_push, drop-drop, drop-append-le, length-map}
 use Rattle.std.proofs.lemmas.List.Sums.{length-filter, count_by-le-length}
 use Rattle.std.proofs.lemmas.Bool.{and_parts, and_from, and_right, lt-ltb, le-ltb, cond-true, cond-false, cases_lt}
 use Rattle.posts.specs.Meaning.{Item, PostLaws, Puts, sendable, addressed}
-use Rattle.posts.specs.Shelves.{shelf_means, shelf_items, welcome, latest, Replaces}
-use Rattle.posts.specs.Midway.{with_room, Stocking}
+use Rattle.posts.specs.Shelves.{shelf_means, shelf_items, welcome, latest}
+use Rattle.posts.specs.Midway.{with_room, stocked, Stocking}
 use Rattle.posts.specs.declared.shelf.Shelf.{Shelf}
 use Rattle.posts.specs.Kept.{kept_yes, kept_no}
-use Rattle.posts.specs.ParcelsLemmas.{parcels_sendable, tray_few}
-use Rattle.posts.specs.Putting.{list_refused, puts_kept}
+use Rattle.posts.specs.ParcelsLemmas.{tray_sendable}
+use Rattle.posts.specs.Putting.{puts_kept}
 
 pub shelf_lawful : PostLaws shelf_means
 shelf_lawful =
     record {
       offered = λ shelf frame to q e. (and_parts (sendable frame) (to q) e).1;
       carried = λ shelf frame to q e. (and_parts (sendable frame) (to q) e).0;
-      frames = λ shelf. parcels_sendable _;
+      frames = λ shelf. tray_sendable shelf.tray;
     }
 
 latest_all : (zs : List Item) → length zs ≤ 64 → latest zs ≡ zs
@@ -44,31 +44,22 @@ latest_push zs a =
     ]
 
 module _ (xs : List Item) (frame : List ℕ) (to : ℕ → Bool) where
-  pub stocking_none : length xs ≤ 64 → Stocking xs frame to 0 xs
-  stocking_none few = record { list = rw append-nil (sym (latest_all xs few)) }
-
-  module _ (q : ℕ) (ys zs : List Item) (f : Stocking xs frame to q ys) where
-    pub stocking_no : to q ≡ false → zs ≡ ys → Stocking xs frame to (q + 1) zs
-    stocking_no e same =
-        record { list = same ∙ rw (kept_no (welcome frame to) q (and_right (sendable frame) (to q) e)) f.list }
-
-    pub stocking_yes : sendable frame ≡ true → to q ≡ true → zs ≡ with_room ys ++ addressed frame q ∷ [] → Stocking xs frame to (q + 1) zs
-    stocking_yes fit e pushed =
-        let keeps = and_from (sendable frame) (to q) fit e in
-        let before = ap (λ l. with_room l ++ addressed frame q ∷ []) f.list in
-        record {
-          list = pushed ∙ before ∙ rw (kept_yes (welcome frame to) q keeps, map_push, ← append_assoc) (latest_push (xs ++ map (addressed frame) (filter (welcome frame to) (range_with_len 0 q))) (addressed frame q));
-        }
+  -- an addressee is added, or passed by
+  pub stocking_more : sendable frame ≡ true → (q : ℕ) (ys zs : List Item) → Stocking xs frame to q ys → zs ≡ stocked frame to q ys → Stocking xs frame to (q + 1) zs
+  stocking_more fit q ys zs f is = at (to q) refl is
+    where
+      at : (asked : Bool) → to q ≡ asked → zs ≡ cond asked (with_room ys ++ addressed frame q ∷ []) ys → Stocking xs frame to (q + 1) zs
+      at false e same =
+          record { list = same ∙ rw (kept_no (welcome frame to) q (and_right (sendable frame) (to q) e)) f.list }
+      at true e pushed =
+          let keeps = and_from (sendable frame) (to q) fit e in
+          let before = ap (λ l. with_room l ++ addressed frame q ∷ []) f.list in
+          record {
+            list = pushed ∙ before ∙ rw (kept_yes (welcome frame to) q keeps, map_push, ← append_assoc) (latest_push (xs ++ map (addressed frame) (filter (welcome frame to) (range_with_len 0 q))) (addressed frame q));
+          }
 
 module _ (before : Shelf) (frame : List ℕ) (to : ℕ → Bool) where
-  pub replaces_refused : sendable frame ≡ false → Replaces before frame to before
-  replaces_refused unfit =
-      record { list = sym (latest_all (shelf_items before) (tray_few before.tray)) ∙ ap latest (list_refused shelf_means before frame to shelf_lawful unfit) }
-
   module _ (after : Shelf) (q : ℕ) (all : q ≡ 8) (f : Stocking (shelf_items before) frame to q (shelf_items after)) where
-    pub replaces_stocked : Replaces before frame to after
-    replaces_stocked = record { list = rw all at f.list }
-
     -- at most eight items are new, so only old ones go
     pub puts_stocked : (n : ℕ) → sendable frame ≡ true → n ≡ count_by to (range_with_len 0 q) → Puts shelf_means before frame to n after
     puts_stocked n fit count =

@@ -1,8 +1,7 @@
 -- What a tray means: the items of its parcels. Assumes nothing.
-use Rattle.std.specs.Prelude.{List, map, vec_items}
+use Rattle.std.specs.Prelude.{List, vec_items}
 use Rattle.posts.specs.Meaning.{Item}
-use Rattle.posts.specs.Parcels.{meant}
 use Rattle.posts.specs.declared.tray.Tray.{Tray}
 
 abbrev pub tray_items : Tray → List Item
-tray_items tray = map meant (vec_items tray.parcels)
+tray_items tray = vec_items tray.parcels

@@ -5,8 +5,7 @@ ghost use Rattle.posts.specs.Layers.{past, barred};
 ghost use Rattle.posts.specs.Meaning.{Puts, Takes};
 ghost use Rattle.std.proofs.Common.{rules};
 
-use crate::masks::without;
-use crate::post::Post;
+use crate::post::{LONGEST, Post};
 
 // Offers a frame below without those that it is shut to. In all else it is the post below.
 #[derive(Drop)]
@@ -27,7 +26,7 @@ impl<P: Post> Barrier<P> {
     fn open_to(&self, to: u8) -> u8
         ensures { member result ≡ past self.now (member to) }
     {
-        without(to, self.shut)
+        to & !self.shut
     }
 }
 
@@ -45,7 +44,7 @@ impl<P: Post> Post for Barrier<P> {
         self.below.put(frame, open)
     }
 
-    fn take(&mut self, q: usize, k: usize, out: &mut [u8; 88]) -> Option<usize>
+    fn take(&mut self, q: usize, k: usize, out: &mut [u8; LONGEST]) -> Option<usize>
         ensures takes { Takes (barred P.Post.means) self.old q k out.old result self.new out.new }
         ensures passed { Takes P.Post.means self.old.below q k out.old result self.new.below out.new }
         ensures stands { self.new.shut ≡ self.old.shut }

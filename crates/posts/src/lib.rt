@@ -3,9 +3,9 @@
 
 pub mod barrier;
 pub mod line;
-mod masks;
 mod parcel;
 pub mod post;
 pub mod quota;
+mod sendable;
 pub mod shelf;
 mod tray;

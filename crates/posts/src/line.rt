@@ -1,13 +1,13 @@
 // The line: a post with room for 64 items.
-ghost use Rattle.std.specs.Prelude.{◌≡◌, ◌+◌, true, List, [], IfOk};
+ghost use Rattle.std.specs.Prelude.{◌≡◌, [], IfOk};
 ghost use Rattle.model.specs.Sets.{member};
-ghost use Rattle.posts.specs.Meaning.{Item, Puts, Takes, sendable};
+ghost use Rattle.posts.specs.Meaning.{Puts, Takes};
 ghost use Rattle.posts.specs.Lines.{line_items, line_means, Queues, Lets};
-ghost use Rattle.posts.specs.Midway.{Filling};
+ghost use Rattle.posts.specs.Midway.{offered};
 ghost use Rattle.posts.specs.LinesLemmas.{line_lawful};
 
-use crate::parcel::sendable;
-use crate::post::Post;
+use crate::post::{LONGEST, Post};
+use crate::sendable::Sendable;
 use crate::tray::Tray;
 use model::sets::has;
 use std::alloc::{AllocError, Global};
@@ -28,9 +28,8 @@ impl Line {
     }
 
     // Adds an item for q, if q is addressed and there is room.
-    fn offer(&mut self, frame: &[u8], to: u8, q: usize)
-        requires { sendable frame.now ≡ true }
-        ensures { (xs : List Item) → Filling xs frame.now (member to) q (line_items self.old) → Filling xs frame.now (member to) (q + 1) (line_items self.new) }
+    fn offer(&mut self, frame: Sendable, to: u8, q: usize)
+        ensures { line_items self.new ≡ offered frame.entry.bytes.now (member to) q (line_items self.old) }
     {
         if has(to, q) && self.tray.has_room() {
             self.tray.push(frame, q);
@@ -38,10 +37,9 @@ impl Line {
     }
 
     // Goes through the addressees, ascending, and says how many items were added.
-    fn fill(&mut self, frame: &[u8], to: u8) -> usize
-        requires { sendable frame.now ≡ true }
-        ensures puts { Puts line_means self.old frame.now (member to) result self.new }
-        ensures queues { Queues self.old frame.now (member to) self.new }
+    fn fill(&mut self, frame: Sendable, to: u8) -> usize
+        ensures puts { Puts line_means self.old frame.entry.bytes.now (member to) result self.new }
+        ensures queues { Queues self.old frame.entry.bytes.now (member to) self.new }
     {
         let before = self.tray.len();
         for q in 0..8 {
@@ -56,17 +54,18 @@ impl Post for Line {
 
     ghost lawful = { line_lawful };
 
+    #[tactic(auto, using(crate::specs::Putting::puts_refused, crate::specs::LinesLemmas::line_lawful))]
     fn put(&mut self, frame: &[u8], to: u8) -> usize
         ensures puts { Puts line_means self.old frame.now (member to) result self.new }
         ensures queues { Queues self.old frame.now (member to) self.new }
     {
-        if !sendable(frame) {
-            return 0;
+        match Sendable::of(frame) {
+            Some(frame) => self.fill(frame, to),
+            None => 0,
         }
-        self.fill(frame, to)
     }
 
-    fn take(&mut self, q: usize, k: usize, out: &mut [u8; 88]) -> Option<usize>
+    fn take(&mut self, q: usize, k: usize, out: &mut [u8; LONGEST]) -> Option<usize>
         ensures takes { Takes line_means self.old q k out.old result self.new out.new }
         ensures lets { Lets q k (line_items self.old) result (line_items self.new) }
     {

@@ -1,17 +1,59 @@
 // One frame on its way, as a post holds it.
-ghost use Rattle.std.specs.Prelude.{◌≡◌, ◌≤◌, length};
+ghost use Rattle.std.specs.Prelude.{◌≡◌, ◌++◌, length, drop};
+ghost use Rattle.posts.specs.Meaning.{addressed, is_for};
 
-// A frame for one addressee: its 1 to 88 bytes, and then zeros.
-#[derive(Clone, Copy)]
+use crate::post::LONGEST;
+use crate::sendable::Sendable;
+use arrayvec::ArrayVec;
+use std::marker::Model;
+
+// A frame for one addressee, of 1 to 88 bytes.
+#[derive(Drop)]
 pub struct Parcel {
     to: usize,
-    len: usize,
-    bytes: [u8; 88],
-    ghost some: { 1 ≤ len },
-    ghost short: { len ≤ 88 },
-    ghost whole: { length bytes ≡ 88 },
+    frame: ArrayVec<u8, LONGEST>,
 }
 
-mod methods;
+impl Model for Parcel {
+    ghost use Rattle.posts.specs.Meaning.{Item};
 
-pub(crate) use self::methods::sendable;
+    ghost Value = { Item };
+
+    ghost use Rattle.posts.specs.Parcels.{meant};
+
+    ghost view = { meant };
+
+    ghost use Rattle.std.specs.Prelude.{◌≡◌, true};
+    ghost use Rattle.posts.specs.Meaning.{sendable};
+
+    ghost invariant = { λ parcel. sendable parcel.frame.items ≡ true };
+}
+
+impl Parcel {
+    // The frame, addressed to one.
+    pub(crate) fn new(to: usize, frame: Sendable) -> Parcel
+        ensures { result ≡ addressed frame.entry.bytes.now to }
+    {
+        Parcel {
+            to,
+            frame: ArrayVec::try_from(frame.bytes).unwrap(),
+        }
+    }
+
+    // Whether the frame is for q.
+    pub(crate) fn is_for(&self, q: usize) -> bool
+        ensures { result ≡ is_for q self.now }
+    {
+        self.to == q
+    }
+
+    // Copies the frame to the front of the buffer, and gives its length.
+    pub(crate) fn open(&self, out: &mut [u8; LONGEST]) -> usize
+        ensures long { result ≡ length self.now.frame }
+        ensures opens { out.new ≡ self.now.frame ++ drop result out.old }
+    {
+        let frame = self.frame.as_slice();
+        out[..frame.len()].copy_from_slice(frame);
+        frame.len()
+    }
+}

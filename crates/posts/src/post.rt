@@ -15,7 +15,7 @@ pub trait Post {
         ensures { Puts means self.old frame.now (member to) result self.new };
 
     // Copies the k-th frame that waits for q, counted from 0, to the front of the buffer, and gives its length.
-    fn take(&mut self, q: usize, k: usize, out: &mut [u8; 88]) -> Option<usize>
+    fn take(&mut self, q: usize, k: usize, out: &mut [u8; LONGEST]) -> Option<usize>
         ensures { Takes means self.old q k out.old result self.new out.new };
 
     // How many items wait for q.

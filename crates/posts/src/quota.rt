@@ -5,11 +5,11 @@ ghost use Rattle.posts.specs.Meaning.{waiting, Puts, Takes};
 ghost use Rattle.posts.specs.Layers.{spared, rationed};
 ghost use Rattle.std.proofs.Common.{rules};
 
-use crate::masks::without;
-use crate::post::Post;
-use model::sets::single;
+use crate::post::{LONGEST, Post};
+use model::sets::without;
 
 // Offers a frame below only for those with fewer items waiting than the quota. In all else it is the post below.
+// A type of its own beside the barrier, since the clauses of both name what each holds.
 #[derive(Drop)]
 pub struct Quota<P> {
     below: P,
@@ -38,7 +38,7 @@ impl<P: Post> Quota<P> {
         let mut open = to;
         for q in 0..8 {
             if !self.has_room(q) {
-                open = without(open, single(q));
+                open = without(open, q);
             }
         }
         open
@@ -59,7 +59,7 @@ impl<P: Post> Post for Quota<P> {
         self.below.put(frame, open)
     }
 
-    fn take(&mut self, q: usize, k: usize, out: &mut [u8; 88]) -> Option<usize>
+    fn take(&mut self, q: usize, k: usize, out: &mut [u8; LONGEST]) -> Option<usize>
         ensures takes { Takes (rationed P.Post.means) self.old q k out.old result self.new out.new }
         ensures passed { Takes P.Post.means self.old.below q k out.old result self.new.below out.new }
         ensures stands { self.new.most ≡ self.old.most }

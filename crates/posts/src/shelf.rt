@@ -1,13 +1,13 @@
 // The shelf: a post that remembers the latest 64 items.
-ghost use Rattle.std.specs.Prelude.{◌≡◌, ◌+◌, ◌<◌, true, List, [], length, IfOk};
+ghost use Rattle.std.specs.Prelude.{◌≡◌, ◌<◌, [], length, IfOk};
 ghost use Rattle.model.specs.Sets.{member};
-ghost use Rattle.posts.specs.Meaning.{Item, Puts, Takes, sendable};
+ghost use Rattle.posts.specs.Meaning.{Puts, Takes};
 ghost use Rattle.posts.specs.Shelves.{shelf_items, shelf_means, Replaces};
-ghost use Rattle.posts.specs.Midway.{with_room, Stocking};
+ghost use Rattle.posts.specs.Midway.{with_room, stocked};
 ghost use Rattle.posts.specs.Stocking.{shelf_lawful};
 
-use crate::parcel::sendable;
-use crate::post::Post;
+use crate::post::{LONGEST, Post};
+use crate::sendable::Sendable;
 use crate::tray::Tray;
 use model::sets::{count, has};
 use std::alloc::{AllocError, Global};
@@ -38,9 +38,8 @@ impl Shelf {
     }
 
     // Adds an item for q, if q is addressed.
-    fn offer(&mut self, frame: &[u8], to: u8, q: usize)
-        requires { sendable frame.now ≡ true }
-        ensures { (xs : List Item) → Stocking xs frame.now (member to) q (shelf_items self.old) → Stocking xs frame.now (member to) (q + 1) (shelf_items self.new) }
+    fn offer(&mut self, frame: Sendable, to: u8, q: usize)
+        ensures { shelf_items self.new ≡ stocked frame.entry.bytes.now (member to) q (shelf_items self.old) }
     {
         if has(to, q) {
             self.make_way();
@@ -49,10 +48,10 @@ impl Shelf {
     }
 
     // Goes through the addressees, ascending, and says how many there are.
-    fn fill(&mut self, frame: &[u8], to: u8) -> usize
-        requires { sendable frame.now ≡ true }
-        ensures puts { Puts shelf_means self.old frame.now (member to) result self.new }
-        ensures replaces { Replaces self.old frame.now (member to) self.new }
+    // One function for this and the line's is no plainer: it needs a trait with both relations of a put midway and their laws.
+    fn fill(&mut self, frame: Sendable, to: u8) -> usize
+        ensures puts { Puts shelf_means self.old frame.entry.bytes.now (member to) result self.new }
+        ensures replaces { Replaces self.old frame.entry.bytes.now (member to) self.new }
     {
         for q in 0..8 {
             self.offer(frame, to, q);
@@ -66,17 +65,18 @@ impl Post for Shelf {
 
     ghost lawful = { shelf_lawful };
 
+    #[tactic(auto, using(crate::specs::Putting::puts_refused, crate::specs::Stocking::shelf_lawful))]
     fn put(&mut self, frame: &[u8], to: u8) -> usize
         ensures puts { Puts shelf_means self.old frame.now (member to) result self.new }
         ensures replaces { Replaces self.old frame.now (member to) self.new }
     {
-        if !sendable(frame) {
-            return 0;
+        match Sendable::of(frame) {
+            Some(frame) => self.fill(frame, to),
+            None => 0,
         }
-        self.fill(frame, to)
     }
 
-    fn take(&mut self, q: usize, k: usize, out: &mut [u8; 88]) -> Option<usize>
+    fn take(&mut self, q: usize, k: usize, out: &mut [u8; LONGEST]) -> Option<usize>
         ensures takes { Takes shelf_means self.old q k out.old result self.new out.new }
         ensures stays { self.new ≡ self.old }
     {

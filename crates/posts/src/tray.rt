@@ -1,5 +1,7 @@
 // What a line and a shelf hold their items in.
-ghost use Rattle.std.specs.Prelude.{◌≤◌, vec_len, vec_capacity};
+ghost use Rattle.std.specs.Prelude.{◌≡◌, ◌≤◌, true, length, vec_items, vec_capacity};
+ghost use Rattle.std.specs.List.{All};
+ghost use Rattle.posts.specs.Meaning.{sendable};
 
 use crate::parcel::Parcel;
 
@@ -11,8 +13,9 @@ const ROOM: usize = 64;
 #[derive(Drop)]
 pub struct Tray {
     parcels: Vec<Parcel>,
-    ghost few: { vec_len parcels ≤ 64 },
+    ghost few: { length (vec_items parcels) ≤ 64 },
     ghost room: { 64 ≤ vec_capacity parcels },
+    ghost carried: { All (λ item. sendable item.frame ≡ true) (vec_items parcels) },
 }
 
 mod methods;

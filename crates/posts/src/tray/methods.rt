@@ -1,12 +1,14 @@
 // Filling, reading and emptying a tray.
-ghost use Rattle.std.specs.Prelude.{◌≡◌, ◌+◌, ◌<◌, ◌≤◌, true, [], ◌∷◌, ◌++◌, length, drop, IfOk, nat_lt, slice_index_or};
+ghost use Rattle.std.specs.Prelude.{◌≡◌, ◌+◌, ◌<◌, ◌≤◌, [], ◌∷◌, ◌++◌, length, drop, IfOk, nat_lt, slice_index_or};
 ghost use Rattle.std.specs.List.{remove};
-ghost use Rattle.posts.specs.Meaning.{waiting, sendable, addressed, no_item};
+ghost use Rattle.posts.specs.Meaning.{waiting, addressed, no_item};
 ghost use Rattle.posts.specs.Places.{Finds};
 ghost use Rattle.posts.specs.Trays.{tray_items};
 
 use super::{ROOM, Tray};
 use crate::parcel::Parcel;
+use crate::post::LONGEST;
+use crate::sendable::Sendable;
 use std::alloc::{AllocError, Global};
 
 impl Tray {
@@ -34,10 +36,9 @@ impl Tray {
     }
 
     // Adds an item at the end.
-    pub(crate) fn push(&mut self, frame: &[u8], q: usize)
-        requires sendable { sendable frame.now ≡ true }
-        requires room { length (tray_items self.old) < 64 }
-        ensures { tray_items self.new ≡ tray_items self.old ++ addressed frame.now q ∷ [] }
+    pub(crate) fn push(&mut self, frame: Sendable, q: usize)
+        requires { length (tray_items self.old) < 64 }
+        ensures { tray_items self.new ≡ tray_items self.old ++ addressed frame.entry.bytes.now q ∷ [] }
     {
         self.parcels.push_reserved(Parcel::new(q, frame));
     }
@@ -52,7 +53,7 @@ impl Tray {
     }
 
     // Copies the frame at i to the front of the buffer, and gives its length.
-    pub(crate) fn open(&self, i: usize, out: &mut [u8; 88]) -> usize
+    pub(crate) fn open(&self, i: usize, out: &mut [u8; LONGEST]) -> usize
         requires { i < length (tray_items self.now) }
         ensures long { result ≡ length (slice_index_or (tray_items self.now) i no_item).frame }
         ensures opens { out.new ≡ (slice_index_or (tray_items self.now) i no_item).frame ++ drop result out.old }
@@ -64,30 +65,21 @@ impl Tray {
     pub(crate) fn waiting(&self, q: usize) -> usize
         ensures { result ≡ waiting q (tray_items self.now) }
     {
-        let parcels = self.parcels.as_slice();
-        let mut n = 0;
-        for parcel in parcels {
-            if parcel.is_for(q) {
-                n += 1;
-            }
-        }
-        n
+        self.parcels
+            .iter()
+            .filter(|parcel| parcel.is_for(q))
+            .count()
     }
 
     // Where the k-th item for q stands, counted from 0.
     pub(crate) fn find(&self, q: usize, k: usize) -> Option<usize>
         ensures { Finds (tray_items self.now) q k result }
     {
-        let parcels = self.parcels.as_slice();
-        let mut earlier = 0;
-        for (i, parcel) in parcels.iter().enumerate() {
-            if parcel.is_for(q) {
-                if earlier == k {
-                    return Some(i);
-                }
-                earlier += 1;
-            }
-        }
-        None
+        self.parcels
+            .iter()
+            .enumerate()
+            .filter(|(_, parcel)| parcel.is_for(q))
+            .map(|(i, _)| i)
+            .nth(k)
     }
 }

@@ -1,23 +1,12 @@
-use Rattle.std.proofs.Common.{◌≡◌, arith, rules}
-use lib.ListN.{length-map}
+use Rattle.std.proofs.Common.{rules, arith}
 use Rattle.model.specs.Sets.{member}
-use Rattle.posts.specs.Filling.{filling_none, filling_count}
-use Rattle.posts.specs.LinesLemmas.{queues_filled, puts_filled}
+use Rattle.posts.specs.Filling.{filling_more}
+use Rattle.posts.specs.LinesLemmas.{puts_filled}
 use Rattle.posts.proofs.line.Line.fill.Goals as goal
 
-pub loop-q-init : goal.loop-q-init
-loop-q-init c = filling_none _ _ _ (simp length-map (search rules))
+pub loop-q-preserved : goal.loop-q-preserved
+loop-q-preserved c = filling_more _ _ _ _ _ _ c.loop-q.invariant c.args.frame.fits c.offer.ensures
 
-pub overflow_sub-result : goal.overflow_sub-result
-overflow_sub-result c = let n = filling_count _ _ _ _ _ c.loop-q.invariant in search rules
-
-pub returns : goal.returns
-returns c =
-    let before = c.args.self.now in
-    let frame = c.args.frame.now in
-    let to = member c.args.to in
-    let all : c.loop-q.q ≡ 8 = omega arith in
-    record {
-      puts = puts_filled before frame to _ _ all c.loop-q.invariant _ c.requires (search rules);
-      queues = queues_filled before frame to _ _ all c.loop-q.invariant;
-    }
+pub returns-clause-puts : goal.returns-clause-puts
+returns-clause-puts c =
+    puts_filled c.args.self.now c.args.frame.bytes.now (member c.args.to) _ _ (omega arith) c.loop-q.invariant _ c.args.frame.fits (search rules)

@@ -4,4 +4,4 @@ use Rattle.posts.specs.Midway.{Filling}
 use Rattle.posts.proofs.line.Line.fill.Given as goal
 
 abbrev pub invariant-loop-q : goal.invariant-loop-q
-invariant-loop-q l = Filling (line_items l.initial.self) l.frame (member l.to) l.q (line_items l.self)
+invariant-loop-q l = Filling (line_items l.initial.self) l.frame.bytes.now (member l.to) l.q (line_items l.self)

@@ -1,5 +1,4 @@
-use Rattle.std.proofs.Common.{sym, ap, ◌∙◌}
-use Rattle.model.specs.Sets.{member}
+use Rattle.std.proofs.Common.{sym}
 use Rattle.model.proofs.Masks.{member-past}
 use Rattle.posts.proofs.Members.{weeding_stays, weeding_goes, weeding_all}
 use Rattle.posts.proofs.quota.Quota.open_to.Goals as goal
@@ -8,7 +7,7 @@ use Rattle.posts.proofs.quota.Quota.open_to.Goals.{then-not-has_room, else-not-h
 pub loop-q-preserved : goal.loop-q-preserved
 loop-q-preserved g c =
     elim c.if-not-has_room.branch [
-      | then-not-has_room w ↦ weeding_goes _ _ _ _ c.loop-q.invariant _ _ (sym w.if-not-has_room.ensures) c.loop-q-test.true w.single.ensures.value (ap member w.open-is ∙ w.without-open.ensures)
+      | then-not-has_room w ↦ rw w.open-is (weeding_goes _ _ _ _ c.loop-q.invariant _ (sym w.if-not-has_room.ensures) w.without-open.ensures.by_members)
       | else-not-has_room w ↦ rw w.open-is (weeding_stays _ _ _ _ c.loop-q.invariant (sym w.if-not-has_room.ensures))
     ]
 

@@ -1,20 +1,12 @@
-use Rattle.std.proofs.Common.{◌≡◌, sym, ◌∙◌, arith}
+use Rattle.std.proofs.Common.{◌≡◌, arith}
 use Rattle.model.specs.Sets.{member}
-use Rattle.posts.specs.Kept.{count_members}
-use Rattle.posts.specs.ParcelsLemmas.{tray_few}
-use Rattle.posts.specs.Stocking.{stocking_none, replaces_stocked, puts_stocked}
+use Rattle.posts.specs.Stocking.{stocking_more, puts_stocked}
 use Rattle.posts.proofs.shelf.Shelf.fill.Goals as goal
 
-pub loop-q-init : goal.loop-q-init
-loop-q-init c = stocking_none _ _ _ (tray_few c.args.self.now.tray)
+pub loop-q-preserved : goal.loop-q-preserved
+loop-q-preserved c = stocking_more _ _ _ c.args.frame.fits _ _ _ c.loop-q.invariant c.offer.ensures
 
-pub returns : goal.returns
-returns c =
-    let before = c.args.self.now in
-    let frame = c.args.frame.now in
-    let to = member c.args.to in
+pub returns-clause-puts : goal.returns-clause-puts
+returns-clause-puts c =
     let all : c.loop-q.q ≡ 8 = omega arith in
-    record {
-      puts = puts_stocked before frame to _ _ all c.loop-q.invariant _ c.requires (c.count.ensures.value ∙ sym (count_members c.args.to c.loop-q.q all c.ranges.to.fits));
-      replaces = replaces_stocked before frame to _ _ all c.loop-q.invariant;
-    }
+    puts_stocked c.args.self.now c.args.frame.bytes.now (member c.args.to) _ _ all c.loop-q.invariant _ c.args.frame.fits (rw all c.count.ensures.by_members)

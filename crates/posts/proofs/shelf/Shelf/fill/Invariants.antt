@@ -4,4 +4,4 @@ use Rattle.posts.specs.Midway.{Stocking}
 use Rattle.posts.proofs.shelf.Shelf.fill.Given as goal
 
 abbrev pub invariant-loop-q : goal.invariant-loop-q
-invariant-loop-q l = Stocking (shelf_items l.initial.self) l.frame (member l.to) l.q (shelf_items l.self)
+invariant-loop-q l = Stocking (shelf_items l.initial.self) l.frame.bytes.now (member l.to) l.q (shelf_items l.self)

@@ -1,29 +1,20 @@
-use Rattle.std.proofs.Common.{sym, ap, ◌∙◌, arith}
-use Rattle.std.proofs.lemmas.Bool.{eqb-true}
-use Rattle.posts.specs.ParcelsLemmas.{meant_at, within_map, waiting_yes, waiting_no, waiting_all}
+use Rattle.std.proofs.Common.{rules, tests}
+use Rattle.std.proofs.lemmas.Iterator.{YieldsList-from_slice, YieldsList-from_map}
+use Rattle.std.proofs.lemmas.Iterator.Consumers.{YieldsList-at, YieldsList-from_enumerate, YieldsList-from_filter, nth_from_yields_List}
+use Rattle.posts.specs.Meaning.{is_for}
+use Rattle.posts.specs.Trays.{tray_items}
+use Rattle.posts.proofs.Finding.{finds}
 use Rattle.posts.proofs.tray.Tray.find.Goals as goal
-use Rattle.posts.proofs.tray.Tray.find.Goals.{then-is_for+else-earlier-k, else-is_for}
-
-pub returns-then-earlier-k : goal.returns-then-earlier-k
-returns-then-earlier-k c =
-    rw (← c.as_slice-parcels.ensures.value)
-    record {
-      within = within_map _ _ c.loop-i-test.true;
-      addressee = ap (λ x. x.to) (meant_at _ _ c.index-parcels-i.result c.loop-i-test.true c.index-parcels-i.is) ∙ eqb-true _ c.args.q (sym c.if-is_for.ensures);
-      earlier = sym c.loop-i.invariant.0 ∙ c.if-earlier-k.true;
-    }
-
-pub loop-i-preserved : goal.loop-i-preserved
-loop-i-preserved c =
-    let ps = c.as_slice-parcels.result.now in
-    let i = c.loop-i.i in
-    let p = c.index-parcels-i.result in
-    elim c.if-is_for.branch [
-      | then-is_for+else-earlier-k w ↦ let more = waiting_yes ps i c.args.q p c.loop-i-test.true c.index-parcels-i.is w.if-is_for.ensures in (omega arith, omega arith, omega arith)
-      | else-is_for w ↦ let same = waiting_no ps i c.args.q p c.loop-i-test.true c.index-parcels-i.is w.if-is_for.ensures in (omega arith, omega arith, omega arith)
-    ]
 
 pub returns : goal.returns
 returns c =
-    let all = waiting_all c.as_slice-parcels.result.now c.loop-i.i c.args.q c.loop-i-test.false in
-    rw (← c.as_slice-parcels.ensures.value) (omega arith)
+    let all = tray_items c.args.self.now in
+    finds c.args.q all c.args.k c.nth.result
+    (nth_from_yields_List c.nth.result c.nth.new.self c.args.k c.nth.ensures.ran
+    (YieldsList-from_map _ (λ e. e.0)
+    (YieldsList-at c.map.ensures.source
+    (YieldsList-from_filter _ (λ e. is_for c.args.q e.1)
+    (YieldsList-at c.filter.ensures.source
+    (YieldsList-from_enumerate (YieldsList-at c.enumerate.ensures.source (YieldsList-from_slice all cc)) c.enumerate.ensures.count))
+    c.filter.ensures.closure (λ x b q k. search (rules, tests))))
+    c.map.ensures.closure (λ x r q k. search (rules, tests))))
