@@ -9,6 +9,7 @@ use crate::store::{SaveFailed, Store};
 use model::entries::Entry;
 
 // Counts down to the save that fails, which is next at 1; at 0 none does any more.
+// An Option would be no plainer: `new` is handed 0 for none, its promise names this count, and one subtraction that stops at 0 is the whole rule.
 #[derive(Debug, Drop)]
 pub struct Brittle<S> {
     below: S,

@@ -1,11 +1,11 @@
 // The page store.
-ghost use Rattle.std.specs.Prelude.{◌≡◌, ℕ, ◌<◌, replicate, Ok, vec_len};
-ghost use Rattle.model.specs.Entries.{none, clean};
+ghost use Rattle.std.specs.Prelude.{◌≡◌, replicate, vec_len};
+ghost use Rattle.model.specs.Entries.{clean};
 ghost use Rattle.stores.specs.Meaning.{Saves, Fresh};
-ghost use Rattle.stores.specs.Page.{page_means, page_bytes, page_entry, page_places, page_saved};
+ghost use Rattle.stores.specs.Page.{page_means, page_bytes, page_saved};
 ghost use Rattle.std.proofs.Common.{rules};
 
-use crate::raw::{ENTRY_BYTES, entry_at, overwrite, zeroed};
+use crate::raw::{ENTRY_BYTES, entry_at, overwrite, slots, zeroed};
 use crate::store::{SaveFailed, Store};
 use model::entries::Entry;
 
@@ -17,12 +17,13 @@ pub struct PageStore {
 
 impl PageStore {
     // An empty page of these bytes.
+    #[tactic(auto, using(crate::proofs::PageBytes::empty_page))]
     pub fn new(bytes: Vec<u8>) -> PageStore
         ensures bytes { page_bytes result ≡ replicate (vec_len bytes) 0 }
         ensures fresh { Fresh page_means result }
     {
         PageStore {
-            bytes: without_entries(bytes),
+            bytes: zeroed(bytes),
         }
     }
 
@@ -32,23 +33,6 @@ impl PageStore {
     {
         self.bytes.as_slice()
     }
-
-    // Writes the entry over the bytes of its place.
-    fn put(&mut self, place: usize, e: Entry)
-        requires { place < page_places (page_bytes self.old) }
-        ensures saves { Saves page_means self.old place (clean e) (Ok tt) self.new }
-        ensures bytes { page_bytes self.new ≡ page_saved (page_bytes self.old) place (clean e) }
-    {
-        overwrite(&mut self.bytes, ENTRY_BYTES * place, &e.to_bytes());
-    }
-}
-
-// Zero bytes spell no entry.
-fn without_entries(bytes: Vec<u8>) -> Vec<u8>
-    ensures items { result.items ≡ replicate (vec_len bytes) 0 }
-    ensures empty { (k : ℕ) → page_entry result.items k ≡ none }
-{
-    zeroed(bytes)
 }
 
 impl Store for PageStore {
@@ -57,15 +41,13 @@ impl Store for PageStore {
     ghost lawful = { Prim.search rules };
 
     fn places(&self) -> usize {
-        self.bytes.len() / ENTRY_BYTES
+        slots::<ENTRY_BYTES>(&self.bytes).len()
     }
 
     fn load(&self, place: usize) -> Entry {
-        if place < self.places() {
-            entry_at(&self.bytes, ENTRY_BYTES * place)
-        } else {
-            Entry::none()
-        }
+        slots::<ENTRY_BYTES>(&self.bytes)
+            .get(place)
+            .map_or(Entry::none(), |slot| entry_at(slot, 0))
     }
 
     fn save(&mut self, place: usize, e: Entry) -> Result<(), SaveFailed>
@@ -73,7 +55,7 @@ impl Store for PageStore {
         ensures bytes { page_bytes self.new ≡ page_saved (page_bytes self.old) place (clean e) }
     {
         if place < self.places() {
-            self.put(place, e);
+            overwrite(&mut self.bytes, ENTRY_BYTES * place, &e.to_bytes());
             Ok(())
         } else {
             Err(SaveFailed { place })

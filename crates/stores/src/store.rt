@@ -1,14 +1,24 @@
 // What a store is.
 ghost use Rattle.std.specs.Prelude.{◌≡◌};
 ghost use Rattle.model.specs.Entries.{clean};
+ghost use Rattle.model.specs.declared.faults.Fault.TheVariants as refusal;
 ghost use Rattle.stores.specs.Meaning.{StoreMeaning, StoreLaws, Saves};
 
 use model::entries::Entry;
+use model::faults::Fault;
 
 // A save that failed, at this place.
 #[derive(Clone, Copy, Debug, PartialEq, Eq)]
 pub struct SaveFailed {
     pub place: usize,
+}
+
+impl From<SaveFailed> for Fault {
+    ghost from_gives = { λ failed fault. fault ≡ refusal.SaveFailed failed.place };
+
+    fn from(failed: SaveFailed) -> Fault {
+        Fault::SaveFailed(failed.place)
+    }
 }
 
 // A store keeps one entry at each of its places.

@@ -1,17 +1,14 @@
 // What a journal store does.
-ghost use Rattle.std.specs.Prelude.{◌≡◌, ◌+◌, ◌*◌, ◌<◌, ◌≤◌, true, false, [], ◌++◌, length, take, drop, replicate, Ok, vec_len, nat_lt, refl};
+ghost use Rattle.std.specs.Prelude.{◌≡◌, ◌/◌, false, [], length, take, replicate, vec_len};
 ghost use Rattle.std.specs.Int.Digits.{number_from_digits};
-ghost use Rattle.model.specs.Entries.{clean, is_entry};
+ghost use Rattle.model.specs.Entries.{clean};
 ghost use Rattle.stores.specs.Journal.{newest, saved_bytes, journal_size, journal_bytes, journal_used, journal_takes, journal_saved, journal_means};
 ghost use Rattle.stores.specs.Meaning.{Saves, Fresh};
-ghost use Rattle.std.proofs.Common.{arith};
-ghost use Rattle.std.proofs.lemmas.Bool.{cond_both};
-ghost use Rattle.std.proofs.lemmas.Bool.Decides.{nat_tests};
-ghost use Rattle.model.specs.Entries;
 ghost use Rattle.stores.specs.Saves.{newest_entry};
+ghost use Rattle.std.proofs.Common.{rules};
 
 use super::JournalStore;
-use crate::raw::{entry_at, overwrite, zeroed};
+use crate::raw::{entry_at, overwrite, slots, zeroed};
 use crate::store::{SaveFailed, Store};
 use model::entries::Entry;
 
@@ -42,31 +39,12 @@ impl JournalStore {
     {
         &self.bytes[0..SAVE_BYTES * self.saves]
     }
-
-    // Adds a save to the used bytes.
-    fn append(&mut self, place: usize, e: Entry)
-        requires { journal_takes self.old place ≡ true }
-        ensures saves { Saves journal_means self.old place (clean e) (Ok tt) self.new }
-        ensures used { journal_used self.new ≡ journal_used self.old ++ saved_bytes place (clean e) }
-        ensures capacity { length (journal_bytes self.new) ≡ length (journal_bytes self.old) }
-    {
-        overwrite(
-            &mut self.bytes,
-            SAVE_BYTES * self.saves,
-            &record_of(place as u16, e),
-        );
-        self.saves += 1;
-    }
 }
 
 impl Store for JournalStore {
     ghost means = { journal_means };
 
-    ghost lawful = { record {
-      held = λ s k. cond_both (nat_lt k s.places) (newest (journal_used s) k s.saves) Entries.none (λ e. is_entry e ≡ true) (λ _. newest_entry (journal_used s) k s.saves) (λ _. refl);
-      missing = λ s k past. Prim.grind (arith, nat_tests);
-      no_place = λ s k e past. Prim.grind (arith, nat_tests);
-    } };
+    ghost lawful = { Prim.search (rules, newest_entry) };
 
     fn places(&self) -> usize {
         self.places
@@ -74,7 +52,7 @@ impl Store for JournalStore {
 
     fn load(&self, place: usize) -> Entry {
         if place < self.places {
-            newest_save(self.used_bytes(), self.saves, place)
+            newest_save(self.used_bytes(), place)
         } else {
             Entry::none()
         }
@@ -86,8 +64,13 @@ impl Store for JournalStore {
         ensures refused { journal_takes self.old place ≡ false → self.new ≡ self.old }
         ensures capacity { length (journal_bytes self.new) ≡ length (journal_bytes self.old) }
     {
-        if place < self.places && self.bytes.len() - SAVE_BYTES * self.saves >= SAVE_BYTES {
-            self.append(place, e);
+        if place < self.places && self.saves < self.bytes.len() / SAVE_BYTES {
+            overwrite(
+                &mut self.bytes,
+                SAVE_BYTES * self.saves,
+                &record_of(place as u16, e),
+            );
+            self.saves += 1;
             Ok(())
         } else {
             Err(SaveFailed { place })
@@ -95,46 +78,30 @@ impl Store for JournalStore {
     }
 }
 
-// The place that stands in the two bytes from here on.
-fn place_at(bytes: &[u8], from: usize) -> usize
-    requires { from + 2 ≤ length bytes.now }
-    ensures { result ≡ number_from_digits 256 (take 2 (drop from bytes.now)) }
+// The place of a save.
+fn place_of(save: &[u8; SAVE_BYTES]) -> usize
+    ensures { result ≡ number_from_digits 256 (take 2 save.now) }
 {
-    bytes[from] as usize * 256 + bytes[from + 1] as usize
+    usize::from(u16::from_be_bytes([save[0], save[1]]))
 }
 
-// Among the first so many saves the newest of the place.
-fn newest_save(bytes: &[u8], saves: usize, place: usize) -> Entry
-    requires { 14 * saves ≤ length bytes.now }
-    ensures { result ≡ newest bytes.now place saves }
+// The newest save of the place.
+fn newest_save(used: &[u8], place: usize) -> Entry
+    ensures { result ≡ newest used.now place (length used.now / 14) }
 {
-    for i in (0..saves).rev() {
-        if place_at(bytes, SAVE_BYTES * i) == place {
-            return entry_at(bytes, SAVE_BYTES * i + 2);
-        }
-    }
-    Entry::none()
+    slots::<SAVE_BYTES>(used)
+        .iter()
+        .rev()
+        .find(|save| place_of(save) == place)
+        .map_or(Entry::none(), |save| entry_at(save, 2))
 }
 
 // The fourteen bytes of a save.
-fn record_of(place: u16, e: Entry) -> [u8; 14]
+fn record_of(place: u16, e: Entry) -> [u8; SAVE_BYTES]
     ensures { result ≡ saved_bytes place (clean e) }
 {
-    let b = e.to_bytes();
-    [
-        (place / 256) as u8,
-        (place % 256) as u8,
-        b[0],
-        b[1],
-        b[2],
-        b[3],
-        b[4],
-        b[5],
-        b[6],
-        b[7],
-        b[8],
-        b[9],
-        b[10],
-        b[11],
-    ]
+    let mut record = [0; SAVE_BYTES];
+    record[..2].copy_from_slice(&place.to_be_bytes());
+    record[2..].copy_from_slice(&e.to_bytes());
+    record
 }
