@@ -1,7 +1,7 @@
 -- What a ledger held stays held, and an owner's latest entry is one of these. Assumes nothing.
-use Rattle.std.proofs.Common.{◌≡◌, ℕ, ◌<◌, Bool, true, false, cond, eqb, ℤ, pos, negsuc, ◌≤ℤ◌, ◌<ℤ◌, sym, refl, ap, ◌∙◌, subst, inl, inr, ⊎_elim, arith}
+use Rattle.std.proofs.Common.{◌≡◌, ℕ, cond, eqb, ℤ, pos, negsuc, ◌≤ℤ◌, ◌<ℤ◌, sym, refl, ap, subst, inl, inr, ⊎_elim, arith}
 use Rattle.std.proofs.lemmas.Int.{ints}
-use Rattle.std.proofs.lemmas.Bool.{cases_eq, eqb-true, eq-eqb, ne_eqb}
+use Rattle.std.proofs.lemmas.Bool.{cond_both, eqb-true, eq-eqb, ne_eqb}
 use Rattle.model.specs.Entries.{none}
 use Rattle.model.specs.declared.entries.Entry.{Entry}
 use Rattle.ledger.specs.Ledgers.{Ledger, empty, saved, latest, Held, newest, older, Past, Cast, Onward, still, onward}
@@ -34,21 +34,11 @@ latest_newest L a e = ap (λ t. cond t e (latest L a)) (eq-eqb a a refl)
 pub latest_other : (L : Ledger) (o a : ℕ) (e : Entry) → (a ≡ o → ⊥) → latest (saved L o e) a ≡ latest L a
 latest_other L o a e other = ap (λ t. cond t e (latest L a)) (ne_eqb a o other)
 
--- a table of the latest entries that takes in the newest one
-pub latest_follows : (L : Ledger) (a : ℕ) (e : Entry) (n : ℕ) (before after : ℕ → Entry) → ((i : ℕ) → i < n → before i ≡ latest L i) → after a ≡ e
-    → ((i : ℕ) → i < n → (i ≡ a → ⊥) → after i ≡ before i) → (i : ℕ) → i < n → after i ≡ latest (saved L a e) i
-latest_follows L a e n before after is new others i lt = ⊎_elim own (λ other. others i lt other ∙ is i lt ∙ sym (latest_other L a i e other)) (cases_eq i a)
-  where
-    own : i ≡ a → after i ≡ latest (saved L a e) i
-    own same = rw same (new ∙ sym (latest_newest L a e))
-
 pub latest_past : (L : Ledger) (a : ℕ) → Past L a (latest L a)
 latest_past empty a = inl refl
-latest_past (saved L o e) a = go (eqb a o) refl (past_grows (latest_past L a))
-  where
-    go : (t : Bool) → eqb a o ≡ t → Past (saved L o e) a (latest L a) → Past (saved L o e) a (cond t e (latest L a))
-    go true is before = inr (subst (λ k. Held (saved L o e) k e) (sym (eqb-true a o is)) newest)
-    go false is before = before
+latest_past (saved L o e) a =
+    cond_both (eqb a o) e (latest L a) (Past (saved L o e) a)
+    (λ is. inr (subst (λ k. Held (saved L o e) k e) (sym (eqb-true a o is)) newest)) (λ _. past_grows (latest_past L a))
 
 -- a vote that is shown was held
 pub held_if_voted : {L : Ledger} {a : ℕ} {e : Entry} → Past L a e → pos 0 ≤ℤ e.vote → Held L a e
@@ -77,8 +67,5 @@ none_formed e is = subst Formed (sym is) (record { low = omega (arith, ints); wi
 
 -- where an owner's entry grows, everybody's latest does
 pub latest_grows : (L : Ledger) (o : ℕ) (f : Entry) → Under (latest L o) f → (a : ℕ) → Under (latest L a) (latest (saved L o f) a)
-latest_grows L o f grows a = go (eqb a o) refl
-  where
-    go : (t : Bool) → eqb a o ≡ t → Under (latest L a) (cond t f (latest L a))
-    go true is = subst (λ k. Under (latest L k) f) (sym (eqb-true a o is)) grows
-    go false is = under_itself (latest L a)
+latest_grows L o f grows a =
+    cond_both (eqb a o) f (latest L a) (Under (latest L a)) (λ is. subst (λ k. Under (latest L k) f) (sym (eqb-true a o is)) grows) (λ _. under_itself (latest L a))

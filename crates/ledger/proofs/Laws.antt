@@ -3,10 +3,12 @@ use Rattle.std.proofs.Common.{◌≡◌, ℕ, ◌<◌, Bool, true, false, cond, 
 use lib.Signed.{lt_z}
 use Rattle.std.specs.Int.{int_max}
 use Rattle.std.proofs.lemmas.Int.{ints, clamps, by_lt_z}
+use Rattle.std.proofs.lemmas.Bool.{cond_both}
 use Rattle.model.specs.Entries.{none}
 use Rattle.model.specs.declared.entries.Entry.{Entry}
 use Rattle.quorums.specs.Meaning.{RuleMeaning, RuleLaws}
 use Rattle.steps.specs.Entries.{seen}
+use Rattle.steps.proofs.Choosing.{some_member}
 use Rattle.ledger.specs.Ledgers.{Ledger, latest, Past, Cast, Onward}
 use Rattle.ledger.specs.Growth.{owner, Kept}
 use Rattle.ledger.specs.Agreement.{Shown}
@@ -19,24 +21,17 @@ past_cast {e = e} past voted = record { entry = e; held = held_if_voted past vot
 
 -- the join of an entry with one that it is under, and with one that is under it
 seen_later : (e f : Entry) → Under e f → (e.vote ≡ f.vote → e.code ≡ f.code) → seen e f ≡ f
-seen_later e f u one = go (lt_z e.vote f.vote) refl
-  where
-    promise : int_max e.promise f.promise ≡ f.promise
-    promise = omega (arith, ints, clamps)
-
-    go : (t : Bool) → lt_z e.vote f.vote ≡ t → record { promise = int_max e.promise f.promise; vote = (cond t f e).vote; code = (cond t f e).code } ≡ f
-    go true is = λ i. record { promise = promise i; vote = f.vote; code = f.code }
-    go false is = let vote : e.vote ≡ f.vote = omega (arith, ints) in λ i. record { promise = promise i; vote = vote i; code = one vote i }
+seen_later e f u one =
+    let promise : int_max e.promise f.promise ≡ f.promise = omega (arith, ints, clamps) in
+    cond_both (lt_z e.vote f.vote) f e (λ x. record { promise = int_max e.promise f.promise; vote = x.vote; code = x.code } ≡ f)
+    (λ _ i. record { promise = promise i; vote = f.vote; code = f.code })
+    (λ is. let vote : e.vote ≡ f.vote = omega (arith, ints) in λ i. record { promise = promise i; vote = vote i; code = one vote i })
 
 seen_earlier : (e f : Entry) → Under f e → seen e f ≡ e
 seen_earlier e f u =
     let promise : int_max e.promise f.promise ≡ e.promise = omega (arith, ints, clamps) in
     let stays : lt_z e.vote f.vote ≡ false = grind (arith, ints) in
     λ i. record { promise = promise i; vote = (cond (stays i) f e).vote; code = (cond (stays i) f e).code }
-
--- a choosing set has a member, since it shares one with all
-some_member : {Q : Type 0} (m : RuleMeaning Q) → RuleLaws m → (q : Q) (s : ℕ → Bool) → m.chooses q s ≡ true → (j : ℕ) × (j < m.size q) × (s j ≡ true)
-some_member m laws q s chosen = let j = laws.crossing q (λ _. true) s (laws.all_promise q (λ _. true) (λ _ _. refl)) chosen in (j.0, j.1, j.3)
 
 module _ {Q : Type 0} {m : RuleMeaning Q} {q : Q} {handed : ℕ → Type 0} {L : Ledger} (kept : Kept m q handed L) where
   sound : Sound m q handed L

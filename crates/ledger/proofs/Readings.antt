@@ -1,7 +1,7 @@
 -- What a participant reads off its row, in the words of the ledger. Assumes nothing.
-use Rattle.std.proofs.Common.{◌≡◌, ℕ, Bool, true, false, cond, List, ℤ, pos, negsuc, ◌≤ℤ◌, is_some, Some, sym, refl, ap, ◌∙◌, subst, inl, inr, arith}
+use Rattle.std.proofs.Common.{◌≡◌, ℕ, Bool, true, cond, List, ℤ, pos, negsuc, ◌≤ℤ◌, is_some, Some, sym, refl, ap, ◌∙◌, subst, inl, inr, arith}
 use Rattle.std.proofs.lemmas.Int.{ints, by_lt_z}
-use Rattle.std.proofs.lemmas.Bool.{and_parts}
+use Rattle.std.proofs.lemmas.Bool.{and_parts, cond_both}
 use Rattle.kinds.specs.Meaning.{KindMeaning, KindLaws}
 use Rattle.model.specs.declared.entries.Entry.{Entry}
 use Rattle.quorums.specs.Meaning.{RuleMeaning, RuleLaws}
@@ -14,11 +14,8 @@ use Rattle.ledger.proofs.Laws.{past_cast, past_formed, cast_handed, shown_agree,
 
 -- a vote that counts is a vote
 counted_votes : {V : Type 0} (k : KindMeaning V) (e : Entry) (b : ℤ) → pos 0 ≤ℤ b → vote_of k e ≡ b → e.vote ≡ b
-counted_votes k e b ballot = go (is_some (k.value e.code))
-  where
-    go : (t : Bool) → cond t e.vote (negsuc 0) ≡ b → e.vote ≡ b
-    go true is = is
-    go false is = absurd (omega (arith, ints))
+counted_votes k e b ballot =
+    cond_both (is_some (k.value e.code)) e.vote (negsuc 0) (λ v. v ≡ b → e.vote ≡ b) (λ _ is. is) (λ _ is. absurd (omega (arith, ints)))
 
 module _ {Q : Type 0} {m : RuleMeaning Q} {q : Q} where
   -- a set of those that the row shows with promise b, asked of the rule
@@ -73,12 +70,11 @@ module _ {Q : Type 0} {m : RuleMeaning Q} {q : Q} where
         pub past_vote_counts : {a : ℕ} {e : Entry} → Past L a e → vote_of k e ≡ e.vote
         past_vote_counts {e = e} past =
             by_lt_z e.vote (pos 0)
-            (λ low. let least = (past_formed kept past).low in let is : e.vote ≡ negsuc 0 = omega (arith, ints) in unvoted (is_some (k.value e.code)) is)
+            (λ low.
+            let least = (past_formed kept past).low in
+            let is : e.vote ≡ negsuc 0 = omega (arith, ints) in
+            cond_both (is_some (k.value e.code)) e.vote (negsuc 0) (λ v. v ≡ e.vote) (λ _. refl) (λ _. sym is))
             (λ voted. ap (λ t. cond t e.vote (negsuc 0)) (valued e.code (cast_handed kept (past_cast past voted))))
-          where
-            unvoted : (t : Bool) → e.vote ≡ negsuc 0 → cond t e.vote (negsuc 0) ≡ e.vote
-            unvoted true is = refl
-            unvoted false is = sym is
 
         -- what an accept carries from a row of past entries
         pub carries_carried : {entries : List Entry} {wish v : V} → PastRow L (m.size q) (entry_at entries) → handed (k.code wish)

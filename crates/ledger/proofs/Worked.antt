@@ -1,7 +1,7 @@
 -- The worked ledgers are kept, and show what they say. Assumes nothing.
 use Rattle.std.proofs.Common.{◌≡◌, ℕ, zero, suc, ◌<◌, true, [], ◌∷◌, ℤ, pos, ◌≤ℤ◌, ◌<ℤ◌, refl, inl, inr, arith}
-use Rattle.std.specs.List.{ContainsAt}
-use Rattle.std.proofs.ByRecursion.{has_get_or}
+use Rattle.std.specs.List.{Contains}
+use Rattle.std.proofs.lemmas.List.Elements.{Contains-get_or}
 use Rattle.std.proofs.lemmas.Int.{ints}
 use Rattle.model.specs.Entries.{none}
 use Rattle.model.specs.declared.entries.Entry.{Entry}
@@ -38,7 +38,7 @@ abbrev asked_again : Ledger
 asked_again = saved (saved first_round 2 (promising none (pos 5))) 1 (promising (voting (pos 3) 68) (pos 5))
 
 abbrev Ours : Ledger → Type 0
-Ours = Kept majority three (ContainsAt (68 ∷ 99 ∷ []))
+Ours = Kept majority three (Contains (68 ∷ 99 ∷ []))
 
 asked_voteless : Voteless 3 (latest asked)
 asked_voteless = each_of_three (λ j. (latest asked j).vote <ℤ pos 0) (omega (arith, ints)) (omega (arith, ints)) (omega (arith, ints))
@@ -49,7 +49,7 @@ first_kept =
     let promised : Ours asked = kept_receive prepared 1 none refl (inr newest) in
     let accepted : Ours (saved asked 0 (voting (pos 3) 68))
     = kept_accept promised 0 (promising none (pos 3)) refl (pos 3) refl refl (λ is. omega (arith, ints)) (latest asked) (λ i _. latest_past asked i)
-    (those_promised (latest asked) (pos 3) refl) 68 (inr (asked_voteless, has_get_or (68 ∷ 99 ∷ []) 0 0 (omega arith))) in
+    (those_promised (latest asked) (pos 3) refl) 68 (inr (asked_voteless, Contains-get_or (68 ∷ 99 ∷ []) 0 0 (omega arith))) in
     kept_receive accepted 1 (promising none (pos 3)) refl (inr newest)
 
 highest_seen : Highest 3 (latest asked_again) 1

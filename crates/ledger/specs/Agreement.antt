@@ -1,6 +1,6 @@
 -- What every kept ledger shows, whatever its rule. Assumes nothing.
 use Rattle.std.specs.Prelude.{◌≡◌, ℕ, ◌<◌, Bool, true, List, ℤ, pos, ◌≤ℤ◌}
-use Rattle.std.specs.List.{ContainsAt}
+use Rattle.std.specs.List.{Contains}
 use Rattle.model.specs.declared.entries.Entry.{Entry}
 use Rattle.quorums.specs.Meaning.{RuleMeaning}
 use Rattle.ledger.specs.Ledgers.{Ledger, latest, Past, Cast, Onward}
@@ -26,18 +26,18 @@ module _ {Q : Type 0} (m : RuleMeaning Q) (q : Q) where
   -- whatever two rows show as chosen, at a moment and at a later one, is the same
   abbrev pub Agreement : Type 0
   Agreement = (codes : List ℕ) (L M : Ledger) (r s : ℕ → Entry) (b c : ℤ) (v w : ℕ)
-      → Kept m q (ContainsAt codes) M → Onward L M → Shown L r b v → Shown M s c w → v ≡ w
+      → Kept m q (Contains codes) M → Onward L M → Shown L r b v → Shown M s c w → v ≡ w
 
   -- every vote is for a code that was handed in
   abbrev pub Handed : Type 0
-  Handed = (codes : List ℕ) (L : Ledger) (a : ℕ) (b : ℤ) (v : ℕ) → Kept m q (ContainsAt codes) L → Cast L a b v → ContainsAt codes v
+  Handed = (codes : List ℕ) (L : Ledger) (a : ℕ) (b : ℤ) (v : ℕ) → Kept m q (Contains codes) L → Cast L a b v → Contains codes v
 
   -- nothing that can still be shown as an owner's entry is ahead of its latest one
   abbrev pub NeverAhead : Type 0
-  NeverAhead = (codes : List ℕ) (L : Ledger) (a : ℕ) (e : Entry) → Kept m q (ContainsAt codes) L → Past L a e
+  NeverAhead = (codes : List ℕ) (L : Ledger) (a : ℕ) (e : Entry) → Kept m q (Contains codes) L → Past L a e
       → (e.promise ≤ℤ (latest L a).promise) × (e.vote ≤ℤ (latest L a).vote)
 
   -- once all of these voted for v in ballot b, no vote from b on is for another code
   abbrev pub Settled : (ℕ → Bool) → Type 0
   Settled voters = (codes : List ℕ) (L : Ledger) (a : ℕ) (b c : ℤ) (v w : ℕ)
-      → Kept m q (ContainsAt codes) L → ((i : ℕ) → i < m.size q → voters i ≡ true → Cast L i b v) → Cast L a c w → b ≤ℤ c → v ≡ w
+      → Kept m q (Contains codes) L → ((i : ℕ) → i < m.size q → voters i ≡ true → Cast L i b v) → Cast L a c w → b ≤ℤ c → v ≡ w

@@ -1,6 +1,6 @@
 -- Worked ledgers, of three participants under the majority rule. Assumes nothing.
 use Rattle.std.specs.Prelude.{[], ◌∷◌, pos}
-use Rattle.std.specs.List.{ContainsAt}
+use Rattle.std.specs.List.{Contains}
 use Rattle.model.specs.Entries.{none}
 use Rattle.quorums.specs.Majorities.{majority}
 use Rattle.quorums.specs.declared.majority.Majority.{Majority}
@@ -23,7 +23,7 @@ second_round =
 
 -- 99 was handed in as well, and the second round chooses 68 again
 pub record Worked : Type 0 where
-  pub kept : Kept majority three (ContainsAt (68 ∷ 99 ∷ [])) second_round
+  pub kept : Kept majority three (Contains (68 ∷ 99 ∷ [])) second_round
   pub goes_on : Onward first_round second_round
   pub first : Shown majority three first_round (latest first_round) (pos 3) 68
   pub second : Shown majority three second_round (latest second_round) (pos 5) 68

@@ -17,12 +17,5 @@ pub fn settles<Q: QuorumRule>(rule: &Q, voters: u8) -> bool
     ensures behind { NeverAhead Q.QuorumRule.means rule.now }
     ensures worked { Worked }
 {
-    enough(rule, voters)
-}
-
-// Whether the rule asks for no further voter.
-fn enough<Q: QuorumRule>(rule: &Q, voters: u8) -> bool
-    ensures { result ≡ Q.QuorumRule.means.chooses rule.now (member voters) }
-{
     rule.chooses(voters)
 }

@@ -49,13 +49,13 @@ module _ {V : Type 0} (m : KindMeaning V) (entries : List Entry) where
 
   module _ (i : ℕ) (top vote newTop : ℤ) (r new : Option ℕ) (a : Ahead i top r) (is : vote ≡ vote_at m entries i) where
     -- a higher vote takes the lead
-    pub ahead_takes : true ≡ lt_z top vote → newTop ≡ vote → new ≡ Some i → Ahead (i + 1) newTop new
+    pub ahead_takes : lt_z top vote ≡ true → newTop ≡ vote → new ≡ Some i → Ahead (i + 1) newTop new
     ahead_takes above t h =
         let higher : top <ℤ vote_at m entries i = grind (arith, ints) in
         rw h (sym (t ∙ is), higher_leads i top r a higher)
 
     -- any other leaves it
-    pub ahead_keeps : false ≡ lt_z top vote → newTop ≡ top → new ≡ r → Ahead (i + 1) newTop new
+    pub ahead_keeps : lt_z top vote ≡ false → newTop ≡ top → new ≡ r → Ahead (i + 1) newTop new
     ahead_keeps under t h =
         let lower : vote_at m entries i ≤ℤ top = grind (arith, ints) in
         rw (t, h) (lower_leaves i top r a lower)

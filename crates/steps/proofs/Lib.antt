@@ -1,4 +1,5 @@
 pub mod Choosing
+pub mod Fronts
 pub mod Growth
 pub mod Leading
 pub mod Marked

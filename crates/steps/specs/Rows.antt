@@ -10,9 +10,13 @@ same_ballot (pos a) (negsuc b) = false
 same_ballot (negsuc a) (pos b) = false
 same_ballot (negsuc a) (negsuc b) = a == b
 
+-- the numbers that stand for participant i
+abbrev pub numbers_at : List Entry → ℕ → Entry
+numbers_at entries i = slice_index_or entries i (record { promise = pos 0; vote = pos 0; code = 0 })
+
 -- the entry of participant i, as it counts
 abbrev pub entry_at : List Entry → ℕ → Entry
-entry_at entries i = clean (slice_index_or entries i (record { promise = pos 0; vote = pos 0; code = 0 }))
+entry_at entries i = clean (numbers_at entries i)
 
 -- those of the first n that the entries show with promise b
 abbrev pub promised : List Entry → ℕ → ℤ → ℕ → Bool

@@ -8,11 +8,7 @@ use model::entries::Entry;
 pub fn promising(own: Entry, b: i32) -> Entry
     ensures { result ≡ promising own b }
 {
-    Entry {
-        promise: b,
-        vote: own.vote,
-        code: own.code,
-    }
+    Entry { promise: b, ..own }
 }
 
 // The entry that has promised and voted in ballot b, for the value of this code.
@@ -33,20 +29,18 @@ pub fn seen(view: Entry, s: Entry) -> Entry
     let later = if view.vote < s.vote { s } else { view };
     Entry {
         promise: view.promise.max(s.promise),
-        vote: later.vote,
-        code: later.code,
+        ..later
     }
 }
 
-// The own entry after a sender's entry s came in: it takes over a vote that its promise does not forbid, and promises no less than s.
+// The own entry after a sender's entry s came in: it takes over a vote that its promise does not forbid, and promises no less than s. (It shares a struct literal with `seen` and no test: one function over the test would say less.)
 pub fn adopted(own: Entry, s: Entry) -> Entry
     ensures { result ≡ adopted own s }
 {
     let voted = if own.promise <= s.vote { s } else { own };
     Entry {
         promise: own.promise.max(s.promise),
-        vote: voted.vote,
-        code: voted.code,
+        ..voted
     }
 }
 

@@ -1,8 +1,9 @@
-use Rattle.steps.specs.Rows.{vote_at}
-use Rattle.steps.proofs.Marked.{marked_more}
+use Rattle.std.proofs.Common.{rules}
+use Rattle.steps.specs.Rows.{same_ballot, vote_at}
+use Rattle.steps.proofs.Marked.{tested}
 use Rattle.steps.proofs.row.voters.Goals as goal
 
-pub loop-i-preserved : goal.loop-i-preserved
-loop-i-preserved g c =
-    marked_more (vote_at g.K.Kind.means c.args.row.now.entries) _ c.loop-i.voting _ c.loop-i.i _ c.loop-i.invariant c.votes.ensures
-    c.with_if-voting.ensures
+pub returns : goal.returns
+returns g c =
+    tested (λ j. same_ballot (vote_at g.K.Kind.means c.args.row.now.entries j) c.args.b) _ _
+    record { asked = λ j lt. let says = c.those.ensures.asked j lt in search rules; no_others = c.those.ensures.no_others }
