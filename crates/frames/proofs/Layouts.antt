@@ -1,6 +1,5 @@
 -- The parts of a laid out frame, by their lengths. Assumes nothing.
-use Rattle.std.proofs.Common.{◌≡◌, ℕ, ◌+◌, ◌*◌, ◌<◌, ◌≤◌, List, [], ◌∷◌, ◌++◌, length, get_or, take, drop, sym, refl, ap, ◌∙◌, arith, length-append}
-use lib.Seq.{paste}
+use Rattle.std.proofs.Common.{◌≡◌, ℕ, ◌+◌, ◌*◌, ◌<◌, ◌≤◌, List, [], ◌∷◌, ◌++◌, length, get_or, take, drop, sym, refl, ap, ◌∙◌, append_assoc, arith, length-append}
 use Rattle.std.specs.List.{flat_map}
 use Rattle.std.proofs.lemmas.List.{take_at, drop_at, drop-drop, take_all, take_more, length-take-le, flat_map_more}
 use Rattle.model.specs.declared.entries.Entry.{Entry}
@@ -25,19 +24,17 @@ length-laid_out h es = length-append (four_bytes h) (flat_map entry_bytes es) �
 pub sound : (h : Header) → Sound (heading_of h)
 sound h = record { some = h.some; few = h.few; sent = h.sent; known = h.known; named = h.named; addressed = h.addressed }
 
--- a part written just past a front
-paste_past : (front rest part : List ℕ) (at k : ℕ) → length front ≡ at → length part ≡ k → paste (front ++ rest) at part k ≡ (front ++ part) ++ drop k rest
-paste_past front rest part at k is long =
-    let a = take_at front rest at is in
-    let b = take_all k part (omega arith) in
-    let c : drop (at + k) (front ++ rest) ≡ drop k rest = sym (drop-drop k at (front ++ rest)) ∙ ap (drop k) (drop_at front rest at is) in
-    λ i. (a i ++ b i) ++ c i
+-- a part of k bytes written just past a front
+written_past : (front rest part : List ℕ) (at k : ℕ) → length front ≡ at → take at (front ++ rest) ++ (part ++ drop (at + k) (front ++ rest)) ≡ (front ++ part) ++ drop k rest
+written_past front rest part at k is =
+    let past : drop (at + k) (front ++ rest) ≡ drop k rest = sym (drop-drop k at (front ++ rest)) ∙ ap (drop k) (drop_at front rest at is) in
+    (λ i. take_at front rest at is i ++ (part ++ past i)) ∙ sym (append_assoc front part (drop k rest))
 
 -- the buffer once so many entries are written past its first four bytes
 abbrev pub partly : List ℕ → List Entry → ℕ → List ℕ
 partly old es i = (take 4 old ++ flat_map entry_bytes (take i es)) ++ drop (4 + 12 * i) old
 
-pub partly_more : (old now next : List ℕ) (es : List Entry) (i at : ℕ) (d : Entry) → 4 ≤ length old → i < length es → at ≡ 4 + 12 * i → now ≡ partly old es i → next ≡ paste now at (entry_bytes (get_or es i d)) 12 → next ≡ partly old es (i + 1)
+pub partly_more : (old now next : List ℕ) (es : List Entry) (i at : ℕ) (d : Entry) → 4 ≤ length old → i < length es → at ≡ 4 + 12 * i → now ≡ partly old es i → next ≡ take at now ++ (entry_bytes (get_or es i d) ++ drop (at + 12) now) → next ≡ partly old es (i + 1)
 partly_more old now next es i at d long in_row place was is =
     let e = get_or es i d in
     let head = take 4 old in
@@ -45,10 +42,11 @@ partly_more old now next es i at d long in_row place was is =
     let far : length front ≡ 4 + 12 * i = length-append head (flat_map entry_bytes (take i es)) ∙ omega (arith, length-take-le 4 old long, length-joined (take i es), length-take-le i es (omega arith)) in
     let more : front ++ entry_bytes e ≡ head ++ flat_map entry_bytes (take (i + 1) es) = flat_map_more entry_bytes head (take i es) e ∙ ap (λ l. head ++ flat_map entry_bytes l) (sym (take_more es i d in_row)) in
     let step : 4 + 12 * i + 12 ≡ 4 + 12 * (i + 1) = omega arith in
-    is ∙ (λ j. paste (was j) (place j) (entry_bytes e) 12) ∙ paste_past front (drop (4 + 12 * i) old) (entry_bytes e) (4 + 12 * i) 12 far (length-written (clean e)) ∙ (λ j. more j ++ (drop-drop 12 (4 + 12 * i) old ∙ ap (λ k. drop k old) step) j)
+    is ∙ (λ j. take (place j) (was j) ++ (entry_bytes e ++ drop (place j + 12) (was j))) ∙ written_past front (drop (4 + 12 * i) old) (entry_bytes e) (4 + 12 * i) 12 far ∙ (λ j. more j ++ (drop-drop 12 (4 + 12 * i) old ∙ ap (λ k. drop k old) step) j)
 
-pub partly_all : (h : Heading) (out old now : List ℕ) (es : List Entry) (i n len : ℕ) → old ≡ four_bytes h ++ drop 4 out → i ≡ n → len ≡ 4 + 12 * n → now ≡ partly old es i → now ≡ laid_out h (take n es) ++ drop len out
+pub partly_all : (h : Heading) (out old now : List ℕ) (es : List Entry) (i len : ℕ) → old ≡ four_bytes h ++ drop 4 out → i ≡ length es → len ≡ 4 + 12 * i → now ≡ partly old es i → now ≡ laid_out h es ++ drop len out
 unfolding laid_out
-partly_all h out old now es i n len was last long is =
-    let past : drop (4 + 12 * i) (four_bytes h ++ drop 4 out) ≡ drop (4 + 12 * i) out = sym (drop-drop (12 * i) 4 (four_bytes h ++ drop 4 out)) ∙ drop-drop (12 * i) 4 out in
-    is ∙ ap (λ b. partly b es i) was ∙ ap (λ l. (four_bytes h ++ flat_map entry_bytes (take i es)) ++ l) past ∙ ap (λ k. (four_bytes h ++ flat_map entry_bytes (take k es)) ++ drop (4 + 12 * k) out) last ∙ ap (λ k. (four_bytes h ++ flat_map entry_bytes (take n es)) ++ drop k out) (sym long)
+partly_all h out old now es i len was last long is =
+    let whole : take i es ≡ es = take_all i es (omega arith) in
+    let past : drop (4 + 12 * i) (four_bytes h ++ drop 4 out) ≡ drop len out = sym (drop-drop (12 * i) 4 (four_bytes h ++ drop 4 out)) ∙ drop-drop (12 * i) 4 out ∙ ap (λ k. drop k out) (sym long) in
+    is ∙ ap (λ b. partly b es i) was ∙ (λ j. (four_bytes h ++ flat_map entry_bytes (whole j)) ++ past j)

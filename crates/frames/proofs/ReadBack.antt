@@ -1,9 +1,10 @@
 -- What is laid out reads back without a fault. Assumes nothing.
 use Rattle.std.proofs.Common.{◌≡◌, ℕ, zero, suc, ◌+◌, ◌*◌, ◌/◌, ◌%◌, ◌<◌, Bool, true, false, not, ◌&&◌, ◌||◌, eqb, ltb, leb, List, [], ◌∷◌, ◌++◌, map, length, get_or, take, drop, pos, is_some, Some, None, Ok, Err, Option, Result, unwrap_or, sym, refl, ap, ◌∙◌, arith}
+use Rattle.std.specs.Option.{option_or}
 use lib.Signed.{lt_z}
-use Rattle.std.specs.List.{flat_map, AllByRecursion}
+use Rattle.std.specs.List.{flat_map, All}
 use Rattle.std.proofs.lemmas.List.FromFn.{fill_by_all}
-use Rattle.std.proofs.ByRecursion.{All-get_or}
+use Rattle.std.proofs.lemmas.List.Elements.{All-head, All-tail}
 use Rattle.std.proofs.lemmas.List.{take_at, drop_at, drop-drop, length-map, get_or-map}
 use Rattle.std.proofs.lemmas.Bool.{and_from, lt-ltb, le-leb, eq-eqb}
 use Rattle.kinds.specs.Meaning.{KindMeaning}
@@ -18,7 +19,8 @@ use Rattle.frames.specs.declared.reader.Frame.{Frame}
 use Rattle.frames.specs.declared.sort.Sort.{Sort}
 use Rattle.frames.specs.declared.sort.Sort.TheVariants.{Prepare, Accept, Ack}
 use Rattle.frames.specs.Layout.{Heading, Sound, heading_in, four_bytes, entry_bytes, laid_out, entry_in, entries_in}
-use Rattle.frames.specs.Reading.{demand, or_else, header_fault, entry_fault, first_of, code_counts, fault_at, address_fault, valued, first_fault, ForUs, Reads, Complete, ReadsBack, Answered}
+use Rattle.model.specs.Checks.{demand}
+use Rattle.frames.specs.Reading.{header_fault, entry_fault, first_of, code_counts, fault_at, address_fault, valued, first_fault, ForUs, Reads, Complete, ReadsBack, Answered}
 use Rattle.frames.specs.Sorts.{sort_number, sort_of, well_addressed}
 use Rattle.frames.proofs.Layouts.{length-written, length-laid_out}
 use Rattle.frames.proofs.Readings.{row_front}
@@ -42,7 +44,7 @@ heading_back h es is =
 
 -- the bytes of entry i among those of all
 joined_at : (es : List Entry) (i : ℕ) (d : Entry) → i < length es → take 12 (drop (12 * i) (flat_map entry_bytes es)) ≡ entry_bytes (get_or es i d)
-joined_at [] i d in_row = let no : ⊥ = omega arith in absurd no
+joined_at [] i d in_row = absurd (omega arith)
 joined_at (e ∷ es) zero d in_row = take_at (entry_bytes e) (flat_map entry_bytes es) 12 (length-written (clean e))
 joined_at (e ∷ es) (suc i) d in_row =
     let on : 12 * suc i ≡ 12 + 12 * i = omega arith in
@@ -58,15 +60,15 @@ pub entries_back : (h : Heading) (es : List Entry) (n : ℕ) → length es ≡ n
 entries_back h es n long = sym (fill_by_all (entry_in (laid_out h es)) (map clean es) n none (length-map es clean ∙ long) (λ k lt. let in_row : k < length es = omega arith in get_or-map clean es k none none in_row ∙ sym (entry_back h es k in_row)))
 
 -- entries count as themselves
-pub clean_all : (es : List Entry) → AllByRecursion (λ e. is_entry e ≡ true) es → map clean es ≡ es
+pub clean_all : (es : List Entry) → All (λ e. is_entry e ≡ true) es → map clean es ≡ es
 clean_all [] ok = refl
-clean_all (e ∷ es) ok = λ i. clean_same e ok.0 i ∷ clean_all es ok.1 i
+clean_all (e ∷ es) ok = λ i. clean_same e (All-head (λ e. is_entry e ≡ true) e es ok) i ∷ clean_all es (All-tail (λ e. is_entry e ≡ true) e es ok) i
 
 -- a check that passes leaves those after it
-clear : {t : Bool} {later : Option ReaderFault} (fault : ReaderFault) → t ≡ true → later ≡ None → or_else (demand t fault) later ≡ None
-clear fault p q = λ i. or_else (demand (p i) fault) (q i)
+clear : {E : Type 0} {t : Bool} {later : Option E} (fault : E) → t ≡ true → later ≡ None → option_or (demand t fault) later ≡ None
+clear fault p q = λ i. option_or (demand (p i) fault) (q i)
 
-last : {t : Bool} (fault : ReaderFault) → t ≡ true → demand t fault ≡ None
+last : {E : Type 0} {t : Bool} (fault : E) → t ≡ true → demand t fault ≡ None
 last fault p = ap (λ t. demand t fault) p
 
 header_clear : (h : Heading) (es : List Entry) → Sound h → length es ≡ h.n → header_fault (laid_out h es) ≡ None
@@ -92,7 +94,7 @@ wider false b false is = is
 
 first_of_clear : (check : ℕ → Option ReaderFault) (n : ℕ) → ((i : ℕ) → i < n → check i ≡ None) → first_of check n ≡ None
 first_of_clear check zero each = refl
-first_of_clear check (suc k) each = let front = first_of_clear check k (λ i lt. each i (omega arith)) in λ i. or_else (front i) (each k (omega arith) i)
+first_of_clear check (suc k) each = let front = first_of_clear check k (λ i lt. each i (omega arith)) in λ i. option_or (front i) (each k (omega arith) i)
 
 entry_clear : (counts : Bool) (e : Entry) (place : ℕ) → is_entry e ≡ true → (lt_z e.vote (pos 0) || counts) ≡ true → entry_fault counts e place ≡ None
 entry_clear counts e place ok counted = let is = proper e ok in clear _ is.within (clear _ is.coded (last _ counted))
@@ -112,11 +114,10 @@ module _ {V : Type 0} (m : KindMeaning V) where
       let at : (i : ℕ) → i < h.n → fault_at m bytes h.kind i ≡ None = λ i lt.
       let in_row : i < length es = omega arith in
       let e = get_or es i none in
-      let value = All-get_or (λ e. valued m (clean e) ≡ true) es i none in_row all.counts in
-      ap (λ (e : Entry). entry_fault (code_counts m h.kind e.code) e (4 + 12 * i)) (entry_back h es i in_row) ∙ entry_clear _ (clean e) (4 + 12 * i) (clean_is_entry e) (counted h.kind (clean e) value) in
+      ap (λ (e : Entry). entry_fault (code_counts m h.kind e.code) e (4 + 12 * i)) (entry_back h es i in_row) ∙ entry_clear _ (clean e) (4 + 12 * i) (clean_is_entry e) (counted h.kind (clean e) (all.counts i none in_row)) in
       let rows = first_of_clear (fault_at m bytes h.kind) h.n at in
       let back = heading_back h es is in
-      (λ i. or_else (header_clear h es is long i) (or_else (first_of (fault_at m bytes (back i).kind) (back i).n) (address_fault m (back i) n cells q))) ∙ (λ i. or_else (rows i) (address_clear h n cells q us i))
+      (λ i. option_or (header_clear h es is long i) (option_or (first_of (fault_at m bytes (back i).kind) (back i).n) (address_fault m (back i) n cells q))) ∙ (λ i. option_or (rows i) (address_clear h n cells q us i))
 
   -- so reading answers with the same header and the same entries
   reads_back : (bytes : List ℕ) (n cells q : ℕ) (r : Result Frame ReaderFault) → Reads m bytes n cells q r → ReadsBack m bytes n cells q r

@@ -1,42 +1,30 @@
 -- What reading answers: the first fault of the bytes in the order of the checks, or the frame that they spell. Assumes nothing.
-use Rattle.std.specs.Prelude.{◌≡◌, ℕ, zero, suc, ◌+◌, ◌-◌, ◌*◌, ◌/◌, ◌%◌, ◌<◌, Bool, true, cond, not, ◌&&◌, ◌||◌, List, ◌++◌, map, length, take, replicate, pos, is_some, Some, None, Ok, Err, Option, Result, MatchResult, ◌==◌, int_le, int_lt, nat_le, nat_lt, slice_index}
-use Rattle.std.specs.List.{AllByRecursion}
+use Rattle.std.specs.Prelude.{◌≡◌, ℕ, zero, suc, ◌+◌, ◌-◌, ◌*◌, ◌/◌, ◌%◌, ◌<◌, Bool, true, not, ◌&&◌, ◌||◌, List, ◌++◌, map, length, take, replicate, pos, is_some, Some, None, Ok, Err, Option, Result, MatchResult, ◌==◌, int_le, int_lt, nat_le, nat_lt, slice_index}
+use Rattle.std.specs.List.{All}
+use Rattle.std.specs.Option.{option_or}
 use Rattle.kinds.specs.Meaning.{KindMeaning}
 use Rattle.model.specs.declared.entries.Entry.{Entry}
 use Rattle.model.specs.declared.rows.Row.{Row}
+use Rattle.model.specs.Checks.{demand}
 use Rattle.model.specs.Entries.{none, is_entry, clean}
 use Rattle.model.specs.Sets.{member}
 use Rattle.frames.specs.declared.fault.ReaderFault.{ReaderFault}
 use Rattle.frames.specs.declared.header.Header.{Header}
 use Rattle.frames.specs.declared.reader.Frame.{Frame}
-use Rattle.frames.specs.Faults.{ill_formed, not_for_us}
+use Rattle.frames.specs.declared.fault.ReaderFault.TheVariants.{IllFormed, NotForUs}
 use Rattle.frames.specs.Layout.{Heading, Sound, edition, heading_of, heading_in, laid_out, entry_in, entries_in}
 use Rattle.frames.specs.Sorts.{sort_of, well_addressed}
 
--- a check: the fault where it does not pass
-abbrev pub demand : Bool → ReaderFault → Option ReaderFault
-demand passes fault = cond passes None (Some fault)
-
--- the earlier of two checks counts
-abbrev pub or_else : Option ReaderFault → Option ReaderFault → Option ReaderFault
-or_else (Some fault) later = Some fault
-or_else None later = later
-
--- the answer of checks: the fault, or what was asked for
-abbrev pub unless : {X : Type 0} → Option ReaderFault → X → Result X ReaderFault
-unless (Some fault) x = Err fault
-unless None x = Ok x
-
--- a length of 4 at least, then the fields in the order of the layout, with the whole length after n
+-- of several checks the earliest counts: a length of 4 at least, then the fields in the order of the layout, with the whole length after n
 abbrev pub header_fault : List ℕ → Option ReaderFault
 header_fault bytes =
-    or_else (demand (nat_le 4 (length bytes)) (ill_formed (length bytes)))
-    (or_else (demand (is_some (sort_of (slice_index bytes 0 / 64))) (ill_formed 0))
-    (or_else (demand (slice_index bytes 0 / 16 % 4 == edition) (ill_formed 0))
-    (or_else (demand (nat_le 2 (heading_in bytes).n && nat_le (heading_in bytes).n 7) (ill_formed 0))
-    (or_else (demand (length bytes == 4 + 12 * (heading_in bytes).n) (ill_formed (length bytes)))
-    (or_else (demand (nat_lt (heading_in bytes).sender (heading_in bytes).n) (ill_formed 1))
-    (demand (well_addressed (heading_in bytes).sort (heading_in bytes).n (heading_in bytes).sender (heading_in bytes).to) (ill_formed 2)))))))
+    option_or (demand (nat_le 4 (length bytes)) (IllFormed (length bytes)))
+    (option_or (demand (is_some (sort_of (slice_index bytes 0 / 64))) (IllFormed 0))
+    (option_or (demand (slice_index bytes 0 / 16 % 4 == edition) (IllFormed 0))
+    (option_or (demand (nat_le 2 (heading_in bytes).n && nat_le (heading_in bytes).n 7) (IllFormed 0))
+    (option_or (demand (length bytes == 4 + 12 * (heading_in bytes).n) (IllFormed (length bytes)))
+    (option_or (demand (nat_lt (heading_in bytes).sender (heading_in bytes).n) (IllFormed 1))
+    (demand (well_addressed (heading_in bytes).sort (heading_in bytes).n (heading_in bytes).sender (heading_in bytes).to) (IllFormed 2)))))))
 
 abbrev pub HeaderRead : List ℕ → Result Header ReaderFault → Type 0
 HeaderRead bytes (Err fault) = header_fault bytes ≡ Some fault
@@ -45,14 +33,14 @@ HeaderRead bytes (Ok header) = (header_fault bytes ≡ None) × (heading_of head
 -- an entry at a place: its vote is within its promise, it has no code without a vote, and where it votes its code counts
 abbrev pub entry_fault : Bool → Entry → ℕ → Option ReaderFault
 entry_fault counts e place =
-    or_else (demand (int_le e.vote e.promise) (ill_formed (place + 3)))
-    (or_else (demand (int_le (pos 0) e.vote || e.code == 0) (ill_formed (place + 6)))
-    (demand (int_lt e.vote (pos 0) || counts) (ill_formed (place + 6))))
+    option_or (demand (int_le e.vote e.promise) (IllFormed (place + 3)))
+    (option_or (demand (int_le (pos 0) e.vote || e.code == 0) (IllFormed (place + 6)))
+    (demand (int_lt e.vote (pos 0) || counts) (IllFormed (place + 6))))
 
 -- the first fault among so many checks
 abbrev pub first_of : (ℕ → Option ReaderFault) → ℕ → Option ReaderFault
 first_of check zero = None
-first_of check (suc k) = or_else (first_of check k) (check k)
+first_of check (suc k) = option_or (first_of check k) (check k)
 
 -- the entries of n participants, and none in the slots past them
 abbrev pub row_in : List ℕ → ℕ → Row
@@ -69,10 +57,10 @@ module _ {V : Type 0} (m : KindMeaning V) where
   -- for participant q of a register of n participants and so many cells
   abbrev pub address_fault : Heading → ℕ → ℕ → ℕ → Option ReaderFault
   address_fault h n cells q =
-      or_else (demand (h.n == n) (not_for_us 0))
-      (or_else (demand (h.kind == m.number) (not_for_us 1))
-      (or_else (demand (member h.to q) (not_for_us 2))
-      (demand (nat_lt h.cell cells) (not_for_us 3))))
+      option_or (demand (h.n == n) (NotForUs 0))
+      (option_or (demand (h.kind == m.number) (NotForUs 1))
+      (option_or (demand (member h.to q) (NotForUs 2))
+      (demand (nat_lt h.cell cells) (NotForUs 3))))
 
   pub record ForUs (h : Heading) (n cells q : ℕ) : Type 0 where
     pub same_n : h.n ≡ n
@@ -82,8 +70,8 @@ module _ {V : Type 0} (m : KindMeaning V) where
 
   unfoldable pub first_fault : List ℕ → ℕ → ℕ → ℕ → Option ReaderFault
   first_fault bytes n cells q =
-      or_else (header_fault bytes)
-      (or_else (first_of (fault_at bytes (heading_in bytes).kind) (heading_in bytes).n)
+      option_or (header_fault bytes)
+      (option_or (first_of (fault_at bytes (heading_in bytes).kind) (heading_in bytes).n)
       (address_fault (heading_in bytes) n cells q))
 
   -- where an entry votes its code has a value
@@ -96,8 +84,8 @@ module _ {V : Type 0} (m : KindMeaning V) where
     pub heading : heading_of frame.header ≡ heading_in bytes
     pub row : frame.row ≡ row_in bytes n
     pub only_so : bytes ≡ laid_out (heading_of frame.header) (take n frame.row.entries)
-    pub proper : AllByRecursion (λ e. is_entry e ≡ true) frame.row.entries
-    pub counts : AllByRecursion (λ e. valued e ≡ true) frame.row.entries
+    pub proper : All (λ e. is_entry e ≡ true) frame.row.entries
+    pub counts : All (λ e. valued e ≡ true) frame.row.entries
     pub for_us : ForUs (heading_of frame.header) n cells q
 
   abbrev pub Reads : List ℕ → ℕ → ℕ → ℕ → Result Frame ReaderFault → Type 0
@@ -107,7 +95,7 @@ module _ {V : Type 0} (m : KindMeaning V) where
   -- the entries of n participants, each with a value where it votes; what is no entry counts as none
   pub record Complete (n : ℕ) (es : List Entry) : Type 0 where
     pub long : length es ≡ n
-    pub counts : AllByRecursion (λ e. valued (clean e) ≡ true) es
+    pub counts : All (λ e. valued (clean e) ≡ true) es
 
   -- what was laid out for participant q gives back its header and its entries
   abbrev pub ReadsBack : List ℕ → ℕ → ℕ → ℕ → Result Frame ReaderFault → Type 0

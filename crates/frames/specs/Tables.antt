@@ -5,7 +5,7 @@ use Rattle.kinds.specs.Meaning.{KindMeaning}
 use Rattle.model.specs.declared.entries.Entry.{Entry}
 use Rattle.model.specs.Sets.{member}
 use Rattle.frames.specs.declared.fault.ReaderFault.{ReaderFault}
-use Rattle.frames.specs.Faults.{ill_formed, not_for_us}
+use Rattle.frames.specs.declared.fault.ReaderFault.TheVariants.{IllFormed, NotForUs}
 use Rattle.frames.specs.Layout.{Heading, edition, heading_in, entry_in}
 use Rattle.frames.specs.Reading.{code_counts}
 use Rattle.frames.specs.Sorts.{sort_of, well_addressed}
@@ -16,10 +16,10 @@ pub record Demand : Type 0 where
 
 -- a demand of every frame, and one of the frames for us, on the field at this byte
 abbrev pub form : ℕ → Bool → Demand
-form byte holds = record { holds = holds; fault = ill_formed byte }
+form byte holds = record { holds = holds; fault = IllFormed byte }
 
 abbrev pub aim : ℕ → Bool → Demand
-aim byte holds = record { holds = holds; fault = not_for_us byte }
+aim byte holds = record { holds = holds; fault = NotForUs byte }
 
 -- the fault of the first row that does not hold
 abbrev pub first_wrong : List Demand → Option ReaderFault

@@ -2,23 +2,22 @@
 ghost use Rattle.std.specs.Prelude.{◌≡◌};
 ghost use Rattle.frames.specs.Faults.{passed_up};
 
-use model::faults::{Fault, Layer};
+use model::faults::Fault;
 
-// The reader's refusal: number 10 or 11, and the byte where the field at fault begins, or the length where that is wrong.
+// The reader's refusal, with the byte where the field at fault begins, or the length where that is wrong.
 #[derive(Clone, Copy, Debug, PartialEq, Eq)]
-pub struct ReaderFault {
-    pub number: u8,
-    pub place: usize,
+pub enum ReaderFault {
+    IllFormed(usize),
+    NotForUs(usize),
 }
 
 impl From<ReaderFault> for Fault {
     ghost from_gives = { λ f r. r ≡ passed_up f };
 
     fn from(fault: ReaderFault) -> Fault {
-        Fault {
-            layer: Layer::Reader,
-            number: fault.number,
-            place: fault.place,
+        match fault {
+            ReaderFault::IllFormed(place) => Fault::IllFormed(place),
+            ReaderFault::NotForUs(place) => Fault::NotForUs(place),
         }
     }
 }

@@ -4,7 +4,7 @@ ghost use Rattle.frames.specs.Sorts.{well_addressed};
 
 use crate::sort::Sort;
 
-// Who sends what, of which cell, to whom, in a register of n participants and one kind of value.
+// Who sends what, of which cell, to whom, in a register of n participants and one kind of value. (The kind is a number and no enum: any below 16 is well formed, and a register knows one.)
 #[derive(Clone, Copy, Debug)]
 pub struct Header {
     pub sort: Sort,

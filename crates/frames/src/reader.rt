@@ -1,16 +1,17 @@
 // Reading a frame.
 ghost use Rattle.std.specs.Prelude.{◌≡◌, ◌+◌, ◌*◌, ◌<◌, ◌≤◌, length};
-ghost use Rattle.frames.specs.Faults.{ill_formed, not_for_us};
 ghost use Rattle.frames.specs.Layout.{heading_of, entry_in};
-ghost use Rattle.frames.specs.Reading.{demand, unless, HeaderRead, entry_fault, first_of, row_in, code_counts, fault_at, address_fault, first_fault, Answered};
+ghost use Rattle.model.specs.Checks.{demand, unless};
+ghost use Rattle.frames.specs.Reading.{HeaderRead, entry_fault, first_of, row_in, code_counts, fault_at, address_fault, first_fault, Answered};
 ghost use Rattle.frames.specs.Tables.{first_wrong, table};
 
-use crate::fault::ReaderFault;
+use crate::fault::ReaderFault::{self, IllFormed, NotForUs};
 use crate::header::Header;
 use crate::sort::Sort;
 use crate::writer::{EDITION, place_of};
 use kinds::kind::Kind;
 use model::entries::Entry;
+use model::faults::check;
 use model::rows::Row;
 use model::sets::has;
 
@@ -21,28 +22,11 @@ pub struct Frame {
     pub row: Row,
 }
 
-fn ill_formed(place: usize) -> ReaderFault
-    ensures { result ≡ ill_formed place }
-{
-    ReaderFault { number: 10, place }
-}
-
-fn not_for_us(place: usize) -> ReaderFault
-    ensures { result ≡ not_for_us place }
-{
-    ReaderFault { number: 11, place }
-}
-
 // Reads any bytes as a frame for participant q of a register of n participants and so many cells.
+#[tactic(auto, using(crate::proofs::TableLaws::by_table))]
 pub fn read<K: Kind>(bytes: &[u8], n: usize, cells: usize, q: usize) -> Result<Frame, ReaderFault>
     ensures answered { Answered K.Kind.means bytes.now n cells q result }
     ensures by_table { first_fault K.Kind.means bytes.now n cells q ≡ first_wrong (table K.Kind.means bytes.now n cells q) }
-{
-    read_frame::<K>(bytes, n, cells, q)
-}
-
-fn read_frame<K: Kind>(bytes: &[u8], n: usize, cells: usize, q: usize) -> Result<Frame, ReaderFault>
-    ensures { Answered K.Kind.means bytes.now n cells q result }
 {
     let header = read_header(bytes)?;
     let row = read_row::<K>(bytes, &header)?;
@@ -50,34 +34,28 @@ fn read_frame<K: Kind>(bytes: &[u8], n: usize, cells: usize, q: usize) -> Result
     Ok(Frame { header, row })
 }
 
-// A check that has to pass.
-fn check(passes: bool, fault: ReaderFault) -> Result<(), ReaderFault>
-    ensures { result ≡ unless (demand passes fault) tt }
-{
-    if passes { Ok(()) } else { Err(fault) }
-}
-
 fn read_header(bytes: &[u8]) -> Result<Header, ReaderFault>
     ensures { HeaderRead bytes.now result }
 {
     let len = bytes.len();
-    check(len >= 4, ill_formed(len))?;
-    let sort = Sort::of(bytes[0] / 64).ok_or(ill_formed(0))?;
-    check(bytes[0] / 16 % 4 == EDITION, ill_formed(0))?;
-    let n = (bytes[0] % 16) as usize;
-    check(n >= 2 && n <= 7, ill_formed(0))?;
-    check(len == place_of(n), ill_formed(len))?;
-    let sender = (bytes[1] / 16) as usize;
-    check(sender < n, ill_formed(1))?;
-    let to = bytes[2];
-    check(sort.may_go_to(n, sender, to), ill_formed(2))?;
+    let [first, second, to, cell, ..] = *bytes else {
+        return Err(IllFormed(len));
+    };
+    let sort = Sort::try_from(first / 64).map_err(|_| IllFormed(0))?;
+    check(first / 16 % 4 == EDITION, IllFormed(0))?;
+    let n = usize::from(first % 16);
+    check((2..=7).contains(&n), IllFormed(0))?;
+    check(len == place_of(n), IllFormed(len))?;
+    let sender = usize::from(second / 16);
+    check(sender < n, IllFormed(1))?;
+    check(sort.may_go_to(n, sender, to), IllFormed(2))?;
     Ok(Header {
         sort,
         n,
         sender,
-        kind: bytes[1] % 16,
+        kind: second % 16,
         to,
-        cell: bytes[3] as usize,
+        cell: usize::from(cell),
     })
 }
 
@@ -85,13 +63,11 @@ fn read_row<K: Kind>(bytes: &[u8], header: &Header) -> Result<Row, ReaderFault>
     requires { length bytes.now ≡ 4 + 12 * header.now.n }
     ensures { result ≡ unless (first_of (fault_at K.Kind.means bytes.now header.now.kind) header.now.n) (row_in bytes.now header.now.n) }
 {
-    let mut row = Row {
-        entries: [Entry::none(); 7],
-    };
-    for i in 0..header.n {
-        row.entries[i] = read_entry::<K>(bytes, i, header.kind)?;
+    let mut entries = [Entry::none(); 7];
+    for (i, slot) in entries[..header.n].iter_mut().enumerate() {
+        *slot = read_entry::<K>(bytes, i, header.kind)?;
     }
-    Ok(row)
+    Ok(Row { entries })
 }
 
 fn read_entry<K: Kind>(bytes: &[u8], i: usize, kind: u8) -> Result<Entry, ReaderFault>
@@ -108,18 +84,19 @@ fn read_entry<K: Kind>(bytes: &[u8], i: usize, kind: u8) -> Result<Entry, Reader
 fn counts<K: Kind>(kind: u8, code: u64) -> bool
     ensures { result ≡ code_counts K.Kind.means kind code }
 {
-    kind != K::kind_number() || K::value(code).is_some()
+    kind != K::NUMBER || K::value(code).is_some()
 }
 
 fn check_entry(e: &Entry, counts: bool, place: usize) -> Result<(), ReaderFault>
     requires { place < 100 }
     ensures { result ≡ unless (entry_fault counts e.now place) tt }
 {
-    check(e.vote <= e.promise, ill_formed(place + 3))?;
-    check(e.vote >= 0 || e.code == 0, ill_formed(place + 6))?;
-    check(e.vote < 0 || counts, ill_formed(place + 6))
+    check(e.vote <= e.promise, IllFormed(place + 3))?;
+    check(e.vote >= 0 || e.code == 0, IllFormed(place + 6))?;
+    check(e.vote < 0 || counts, IllFormed(place + 6))
 }
 
+// n, cells and q stay apart, as in `read`: a struct would be packed there only to be unpacked here.
 fn check_address<K: Kind>(
     header: &Header,
     n: usize,
@@ -128,8 +105,8 @@ fn check_address<K: Kind>(
 ) -> Result<(), ReaderFault>
     ensures { result ≡ unless (address_fault K.Kind.means (heading_of header.now) n cells q) tt }
 {
-    check(header.n == n, not_for_us(0))?;
-    check(header.kind == K::kind_number(), not_for_us(1))?;
-    check(has(header.to, q), not_for_us(2))?;
-    check(header.cell < cells, not_for_us(3))
+    check(header.n == n, NotForUs(0))?;
+    check(header.kind == K::NUMBER, NotForUs(1))?;
+    check(has(header.to, q), NotForUs(2))?;
+    check(header.cell < cells, NotForUs(3))
 }

@@ -1,6 +1,7 @@
 // A small kind of value to test with.
 ghost use Rattle.frames_tests.specs.Flags.{flags};
 ghost use Rattle.std.proofs.Common.{rules};
+ghost use Rattle.std.specs.Prelude.{refl};
 
 use kinds::kind::Kind;
 
@@ -12,13 +13,13 @@ impl Kind for Flags {
 
     const NUMBER: u8 = 1;
 
+    ghost NUMBER = { 1 };
+
     ghost means = { flags };
 
-    ghost lawful = { Prim.search rules };
+    ghost numbered = { refl };
 
-    fn kind_number() -> u8 {
-        1
-    }
+    ghost lawful = { Prim.search rules };
 
     fn code(v: bool) -> u64 {
         if v { 1 } else { 0 }

@@ -5,6 +5,7 @@ use frames::reader::read;
 use frames::sort::Sort;
 use frames::writer::write;
 use model::entries::Entry;
+use model::faults::Fault;
 use model::rows::Row;
 use std::test::Fail;
 
@@ -20,7 +21,10 @@ fn fault(bytes: &[u8]) -> Option<(u8, usize)> {
 fn fault_at(bytes: &[u8], n: usize, cells: usize, q: usize) -> Option<(u8, usize)> {
     match read::<Flags>(bytes, n, cells, q) {
         Ok(_) => None,
-        Err(f) => Some((f.number, f.place)),
+        Err(f) => {
+            let f = Fault::from(f);
+            Some((f.number(), f.place()))
+        }
     }
 }
 
@@ -138,9 +142,6 @@ fn written_and_read(rt: HostRuntime) -> Result<(), Fail> {
     };
     assert_eq!(rt; frame.header.sender, 2);
     let expected = [none, voted, none, none, none, none, none];
-    for i in 0..7 {
-        let (e, f) = (frame.row.entries[i], expected[i]);
-        assert_eq!(rt; (e.promise, e.vote, e.code), (f.promise, f.vote, f.code));
-    }
+    assert_eq!(rt; frame.row.entries, expected);
     Ok(())
 }
