@@ -1,7 +1,7 @@
 -- A fresh register is tied to empty ledgers, and what that says of its runs: agreement, handed values, nothing ahead of the store. Assumes nothing.
-use Rattle.std.proofs.Common.{◌≡◌, ℕ, ◌+◌, ◌*◌, ◌<◌, ◌≤◌, true, List, [], ℤ, Some, sym, refl, ap, ◌∙◌, subst, append-nil}
-use Rattle.std.specs.List.{AllByRecursion}
-use Rattle.std.proofs.ByRecursion.{All-weaker}
+use Rattle.std.proofs.Common.{get_or, ◌≡◌, ℕ, ◌+◌, ◌*◌, ◌<◌, ◌≤◌, true, List, [], ℤ, Some, sym, refl, ap, ◌∙◌, subst, append-nil}
+use Rattle.std.specs.List.{All}
+use Rattle.std.proofs.lemmas.List.Elements.{All-nil}
 use Rattle.std.proofs.lemmas.Bool.{and_parts, eqb-true, leb-true}
 use Rattle.frames.specs.Layout.{Heading, heading_in, entry_in}
 use Rattle.kinds.specs.Meaning.{KindLaws}
@@ -88,7 +88,7 @@ module _ {V Q P S : Type 0} (m : Makes V Q P S) where
             store = λ i c lt cn. nothing (i * cells + c);
             own = λ p c pn cn. (all_fit p c pn cn).own;
             rows = λ p c pn cn. (all_fit p c pn cn).past;
-            frames = subst (AllByRecursion (Ours m n cells (λ _. empty))) (sym none) tt;
+            frames = subst (All (Ours m n cells (λ _. empty))) (sym none) (All-nil _);
           }
 
   -- what a read-out of a tied board rests on
@@ -118,7 +118,7 @@ module _ {V Q P S : Type 0} (m : Makes V Q P S) where
             let d = subst (λ k. c < k) T.same_cells cn in
             let j = subst (λ k. i < k) T.same_n lt in
             at_most _ _ _ (latest_at_least (T.kept c d) (T.rows p c (subst (λ k. p < k) T.same_n pn) d i j)) (T.store i c j d);
-        frames = All-weaker (Ours m n cells T.ledger) _ (λ item o i lt. framed item o i (subst (λ k. i < k) T.same_n lt)) (m.post.items y.post) T.frames;
+        frames = λ k d in_post i lt. framed (get_or (m.post.items y.post) k d) (T.frames k d in_post) i (subst (λ j. i < j) T.same_n lt);
       }
     where
       framed : (item : Item) → Ours m n cells T.ledger item → (i : ℕ) → i < n → AtMost (entry_in item.frame i) (stored m y i (heading_in item.frame).cell)

@@ -4,7 +4,8 @@ use mathlib.Core.Bool.{false≢true}
 use lib.Signed.{le_z, lt_z}
 use Rattle.std.proofs.lemmas.Int.{ints, to_z-of_z}
 use Rattle.std.proofs.lemmas.Bool.{and_from, and_parts, or_left, lt-ltb, leb-true}
-use Rattle.std.specs.List.{AllByRecursion}
+use Rattle.std.specs.List.{All}
+use Rattle.std.proofs.lemmas.List.Elements.{All-head, All-tail}
 use Rattle.model.proofs.Proper.{proper}
 use Rattle.model.specs.Entries.{is_entry}
 use Rattle.model.specs.declared.entries.Entry.{Entry}
@@ -44,7 +45,7 @@ pub in_words : (test : ℤ → ℤ → Bool) (x y : ℤ) → SFits w32 x → SFi
 in_words test x y fx fy = λ i. test (to_z-of_z w32 x fx i) (to_z-of_z w32 y fy i)
 
 -- what is read of entries is an entry, past their end too
-pub all_entries : (es : List Entry) → AllByRecursion (λ e. is_entry e ≡ true) es → (i : ℕ) → is_entry (get_or es i (record { promise = pos 0; vote = pos 0; code = 0 })) ≡ true
+pub all_entries : (es : List Entry) → All (λ e. is_entry e ≡ true) es → (i : ℕ) → is_entry (get_or es i (record { promise = pos 0; vote = pos 0; code = 0 })) ≡ true
 all_entries [] h i = refl
-all_entries (e ∷ es) h zero = h.0
-all_entries (e ∷ es) h (suc i) = all_entries es h.1 i
+all_entries (e ∷ es) h zero = All-head (λ e. is_entry e ≡ true) e es h
+all_entries (e ∷ es) h (suc i) = all_entries es (All-tail (λ e. is_entry e ≡ true) e es h) i

@@ -2,7 +2,8 @@
 use Rattle.std.proofs.Common.{◌≡◌, Bool, true, false, is_ok, Some, None, Ok, Option, Result, sym, refl, ap, ◌∙◌, subst}
 use Rattle.std.specs.Option.{option_or}
 use Rattle.model.specs.declared.faults.Fault.{Fault}
-use Rattle.machine.specs.Refusals.{demand, unless, Opens}
+use Rattle.model.specs.Checks.{demand, unless}
+use Rattle.machine.specs.Refusals.{Opens}
 
 -- after a check that passed, the next one decides
 pub passed : (first later : Option Fault) → first ≡ None → option_or first later ≡ later

@@ -7,9 +7,10 @@ use Rattle.std.proofs.lemmas.Bool.{cases_eq, cases_Bool, and_from, and_parts, lt
 use Rattle.frames.specs.declared.sort.Sort.TheVariants.{Prepare, Accept}
 use Rattle.kinds.specs.Meaning.{KindMeaning, KindLaws}
 use Rattle.model.specs.Entries.{is_entry}
-use Rattle.model.specs.Faults.{nowhere, is_down, not_its_ballot, promised_already, not_promised, voted_already, too_few}
+use Rattle.model.specs.declared.faults.Fault.TheVariants.{Nowhere, IsDown, NotItsBallot, PromisedAlready, NotPromised, VotedAlready, TooFew}
 use Rattle.model.specs.Sets.{member}
 use Rattle.model.specs.declared.entries.Entry.{Entry}
+use Rattle.model.specs.Faults.{number_of}
 use Rattle.model.specs.declared.faults.Fault.{Fault}
 use Rattle.model.proofs.Proper.{proper}
 use Rattle.quorums.specs.Meaning.{RuleMeaning, RuleLaws}
@@ -52,9 +53,9 @@ module _ {V Q P S : Type 0} (m : Makes V Q P S) (n cells : ℕ) (rule : Q) {es :
   cell_open p c lt cell up =
       let all : length x.table.rows ≡ x.table.n * x.table.cells = tied.all ∙ (λ i. sym tied.same_n i * sym tied.same_cells i) in
       both_pass _ _
-      (passes_none _ nowhere
+      (passes_none _ Nowhere
       (and_from _ _ (and_from _ _ (lt-ltb p x.table.n (omega (arith, lt, tied.same_n))) (lt-ltb c x.table.cells (omega (arith, cell, tied.same_cells)))) (eq-eqb _ _ all)))
-      (passes_none _ is_down (not_from_false (member x.table.down p) up))
+      (passes_none _ IsDown (not_from_false (member x.table.down p) up))
 
 -- all of a row voted in one ballot for one value, so it is chosen
 module _ {V Q : Type 0} (kind : KindMeaning V) (kinds : KindLaws kind) (rules : RuleMeaning Q) (laws : RuleLaws rules) (rule : Q)
@@ -116,10 +117,10 @@ module _ {V Q P S : Type 0} (m : Makes V Q P S) (kinds : KindLaws m.kind) (laws 
         let in_row : i < n = omega (arith, lt, ap m.rule.size tied.same_rule, tied.size) in
         and_from _ _ (lt-ltb i x.table.n (omega (arith, in_row, tied.same_n))) (ballot_is _ b (shown_all i in_row).promise)) in
         both_pass _ _ (cell_open m n cells rule tied p c participant cell (up p participant))
-        (both_pass _ _ (passes_none _ not_promised (ap (λ k. owns k p b) tied.same_n ∙ mine))
-        (both_pass _ _ (passes_none _ not_promised (ballot_is _ b own_promise.promise))
-        (both_pass _ _ (passes_none _ voted_already (not_from_false _ (ballot_below _ b own_promise.vote)))
-        (passes_none _ too_few enough))))
+        (both_pass _ _ (passes_none _ NotPromised (ap (λ k. owns k p b) tied.same_n ∙ mine))
+        (both_pass _ _ (passes_none _ NotPromised (ballot_is _ b own_promise.promise))
+        (both_pass _ _ (passes_none _ VotedAlready (not_from_false _ (ballot_below _ b own_promise.vote)))
+        (passes_none _ TooFew enough))))
 
     module _ (v : V) {wish : V} {kept : ℕ} {y : Board Q P S} (did : Accepts m (λ t. t) x round wish (Ok (v, kept)) y) where
       after : Tied m n cells rule (accept round wish (Ok (v, kept)) ∷ es) y
@@ -147,7 +148,7 @@ module _ {V Q P S : Type 0} (m : Makes V Q P S) (kinds : KindLaws m.kind) (laws 
     pub decides : Decides m x round
     decides wish (Ok (v, kept)) y did saved = (v, (kept, refl, λ _ z quiet. all_voted v did z quiet))
     decides wish (Err (f, back)) y (_, inl r) saved = absurd (true≢false (ap is_some (sym r.0 ∙ accepts_open)))
-    decides wish (Err (f, back)) y (_, inr (_, (v, carried, stopped))) saved = absurd (saved (ap (λ f. f.number) stopped.fault))
+    decides wish (Err (f, back)) y (_, inr (_, (v, carried, stopped))) saved = absurd (saved (ap number_of stopped.fault))
 
   -- the first half: all promise
   module _ {es : List (Event V)} {x : Board Q P S} (tied : Tied m n cells rule es x) (clear : Clear m x p c b) where
@@ -163,7 +164,7 @@ module _ {V Q P S : Type 0} (m : Makes V Q P S) (kinds : KindLaws m.kind) (laws 
     prepares_open : prepare_refusal x.table p c b ≡ None
     prepares_open =
         both_pass _ _ (cell_open m n cells rule tied p c participant cell (up p participant))
-        (both_pass _ _ (passes_none _ not_its_ballot clear.mine) (passes_none _ promised_already own_below))
+        (both_pass _ _ (passes_none _ NotItsBallot clear.mine) (passes_none _ PromisedAlready own_below))
 
     abbrev first : Entry
     first = promising (view x.table c p p) b
@@ -189,7 +190,7 @@ module _ {V Q P S : Type 0} (m : Makes V Q P S) (kinds : KindLaws m.kind) (laws 
     pub quiet_round_at : QuietRound m x round
     quiet_round_at (Ok (turn, kept)) y did saved = (kept, ap (λ t. Ok (t, kept)) did.1, λ _ z quiet. all_promised did z quiet)
     quiet_round_at (Err f) y (inl r) saved = absurd (true≢false (ap is_some (sym r.0 ∙ prepares_open)))
-    quiet_round_at (Err f) y (inr (_, stopped)) saved = absurd (saved (ap (λ f. f.number) stopped.fault))
+    quiet_round_at (Err f) y (inr (_, stopped)) saved = absurd (saved (ap number_of stopped.fault))
 
 module _ {V Q P S : Type 0} (m : Makes V Q P S) (kinds : KindLaws m.kind) (laws : RuleLaws m.rule) (n cells : ℕ) (rule : Q) (tied_step : StaysTied m n cells rule) where
   -- where every step leaves a board tied, a quiet round from a tied board decides

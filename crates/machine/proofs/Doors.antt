@@ -6,11 +6,12 @@ use Rattle.std.proofs.lemmas.Bool.{and_parts, eqb-true, eq-eqb, ltb-true}
 use Rattle.std.specs.Option.{option_or}
 use Rattle.ledger.specs.Growth.{owner}
 use Rattle.model.specs.Sets.{member}
+use Rattle.model.specs.Checks.{demand}
 use Rattle.model.specs.declared.faults.Fault.{Fault}
 use Rattle.quorums.specs.Meaning.{RuleMeaning}
 use Rattle.steps.specs.Rows.{same_ballot, entry_at, promised}
 use Rattle.machine.specs.Board.{Makes, Table, Board, row_of}
-use Rattle.machine.specs.Refusals.{demand, owns, door, cell_door, prepare_refusal, accept_refusal}
+use Rattle.machine.specs.Refusals.{owns, door, cell_door, prepare_refusal, accept_refusal}
 use Rattle.machine.specs.Runs.{Event, prepare, accept, abandon, deliver, restart, Does}
 
 pub both_none : (first later : Option Fault) → option_or first later ≡ None → (first ≡ None) × (later ≡ None)

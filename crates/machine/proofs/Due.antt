@@ -1,6 +1,7 @@
 -- The due items: one of them, all of them, and what is left when one was taken. Assumes nothing.
 use Rattle.std.proofs.Common.{◌≡◌, ℕ, zero, suc, ◌+◌, ◌<◌, ◌≤◌, Bool, true, false, cond, ◌⊎◌, List, [], ◌∷◌, ◌++◌, map, filter, sym, refl, ap, ◌∙◌, inl, inr, ⊎_elim, arith}
-use Rattle.std.specs.List.{range_with_len, AllByRecursion}
+use Rattle.std.specs.List.{range_with_len, All}
+use Rattle.std.proofs.lemmas.List.Elements.{All-cons, All-head, All-tail}
 use Rattle.std.proofs.lemmas.Bool.{cases_eq, both_ways}
 use Rattle.posts.specs.Meaning.{Item}
 use Rattle.machine.specs.Law.{Without, here, there}
@@ -46,9 +47,9 @@ among_counting from (suc many) j low high = ⊎_elim (λ e. inl e) (λ ne. inr (
 
 module _ (P : Item → Type 0) {item : Item} where
   -- all without one are still all, and the one was one of them
-  pub all_without : {due left : List Item} → Without item due left → AllByRecursion P due → P item × AllByRecursion P left
-  all_without here all = (all.0, all.1)
-  all_without (there w) all = let rest = all_without w all.1 in (rest.0, (all.0, rest.1))
+  pub all_without : {due left : List Item} → Without item due left → All P due → P item × All P left
+  all_without here all = (All-head P _ _ all, All-tail P _ _ all)
+  all_without (there w) all = let rest = all_without w (All-tail P _ _ all) in (rest.0, All-cons P _ _ (All-head P _ _ all) rest.1)
 
   -- some one is left, or it is the one that was taken
   pub among_without : {due left : List Item} → Without item due left → Among P due → P item ⊎ Among P left

@@ -1,6 +1,6 @@
 -- What ties the board of a run to one ledger for each cell. Assumes nothing.
 use Rattle.std.proofs.Common.{◌≡◌, ℕ, ◌*◌, ◌<◌, ◌≤◌, true, false, List, length}
-use Rattle.std.specs.List.{AllByRecursion}
+use Rattle.std.specs.List.{All}
 use Rattle.frames.specs.Layout.{Heading, Sound, laid_out}
 use Rattle.ledger.specs.Growth.{PastRow, Kept}
 use Rattle.ledger.specs.Ledgers.{Ledger, latest}
@@ -47,4 +47,4 @@ module _ {V Q P S : Type 0} (m : Makes V Q P S) where
     pub store : (i c : ℕ) → i < n → c < cells → stored m x i c ≡ latest (ledger c) i
     pub own : (p c : ℕ) → p < n → c < cells → member x.table.down p ≡ false → own x.table p c ≡ latest (ledger c) p
     pub rows : (p c : ℕ) → p < n → c < cells → PastRow (ledger c) n (entry_at (row_of x.table p c))
-    pub frames : AllByRecursion (Ours n cells ledger) (m.post.items x.post)
+    pub frames : All (Ours n cells ledger) (m.post.items x.post)

@@ -2,7 +2,7 @@
 use Rattle.std.proofs.Common.{◌≡◌, ℕ, ◌<◌, ◌≤◌, true, cond, List, [], ◌∷◌, length, get_or, take, drop, pos, is_some, Some, None, Ok, Err, sym, refl, ap, ◌∙◌, subst, inl, inr, true≢false, arith}
 use lib.Signed.{lt_z}
 use Rattle.std.specs.Option.{option_map}
-use Rattle.std.proofs.ByRecursion.{All-get_or, All-from_get_or}
+use Rattle.std.proofs.lemmas.List.Elements.{All-get_or, All-from_get_or}
 use Rattle.std.proofs.lemmas.List.{take_at, get_or-take, get_or_default, length-take}
 use Rattle.std.proofs.lemmas.Int.{ints, by_lt_z}
 use Rattle.std.proofs.lemmas.Bool.{or_left, or_right}
@@ -21,6 +21,7 @@ use Rattle.ledger.proofs.Laws.{past_cast, cast_handed}
 use Rattle.model.specs.Entries.{none, is_entry, clean}
 use Rattle.model.specs.Sets.{single}
 use Rattle.model.specs.declared.entries.Entry.{Entry}
+use Rattle.model.specs.Faults.{number_of}
 use Rattle.model.specs.declared.faults.Fault.{Fault}
 use Rattle.model.specs.declared.rows.Row.{Row}
 use Rattle.posts.specs.Meaning.{PostMeaning, Item, Taken, addressed, no_item}
@@ -94,7 +95,7 @@ module _ {V Q P S : Type 0} (m : Makes V Q P S) (kinds : KindLaws m.kind) (n cel
 
     module _ {z : Board Q P S} {q k : ℕ} {out filled : List ℕ} where
       -- so no delivery of it is refused, where no save fails
-      pub never_refused : {f : Fault} → Delivered m x q k out (Err f) z filled → (f.number ≡ 12 → ⊥) → ⊥
+      pub never_refused : {f : Fault} → Delivered m x q k out (Err f) z filled → (number_of f ≡ 12 → ⊥) → ⊥
       never_refused {f} d saved = go d.receives
         where
           reads : first_fault m.kind (take d.long filled) x.table.n x.table.cells q ≡ None
@@ -106,7 +107,7 @@ module _ {V Q P S : Type 0} (m : Makes V Q P S) (kinds : KindLaws m.kind) (n cel
           go : Receives m (posted m x d.post) q (take d.long filled) (Err f) z → ⊥
           go (inl r) = let no : Some f ≡ None = sym r.0 ∙ d.open_door in true≢false (ap is_some no)
           go (inr (_, inl r)) = let no : Some f ≡ None = sym r.0 ∙ ap (option_map passed_up) reads in true≢false (ap is_some no)
-          go (inr (_, inr (frame, s, t))) = saved (ap (λ f. f.number) t.1.fault)
+          go (inr (_, inr (frame, s, t))) = saved (ap number_of t.1.fault)
 
       module _ {kept : ℕ} (d : Delivered m x q k out (Ok kept) z filled) (c r s : ℕ) (to : r < n) (from : s < n) (letter : Letter c r s (taken m d)) where
         frame : Frame

@@ -1,7 +1,7 @@
 -- The plain post and store of the worked runs keep the laws, and what a call does with them. Assumes nothing.
-use Rattle.std.proofs.Common.{◌≡◌, ℕ, zero, suc, ◌-◌, ◌≤◌, Bool, true, false, not, ◌&&◌, ◌||◌, eqb, ltb, List, [], ◌∷◌, ◌++◌, map, length, get_or, take, set, replicate, Ok, Err, filter, sym, refl, ap, ◌∙◌, subst, inr, arith}
-use Rattle.std.specs.List.{remove, range_with_len, AllByRecursion}
-use Rattle.std.proofs.ByRecursion.{All-from_get_or, All-take, All-drop, All-map, All-append}
+use Rattle.std.proofs.Common.{◌≡◌, ℕ, suc, ◌-◌, ◌≤◌, Bool, true, false, not, ◌&&◌, ◌||◌, eqb, ltb, List, ◌++◌, map, length, get_or, take, set, replicate, Ok, Err, filter, sym, refl, ap, ◌∙◌, subst, inr, arith}
+use Rattle.std.specs.List.{remove, range_with_len, All}
+use Rattle.std.proofs.lemmas.List.Elements.{All-replicate, All-from_get_or, All-take, All-drop, All-map, All-append}
 use Rattle.std.proofs.lemmas.List.{length-set, get_or-set_same, get_or-set_other, get_or_past, take_at}
 use Rattle.std.proofs.lemmas.Bool.{and_parts, and_from, le-leb, lt-ltb, le-ltb, ltb-true, or_left}
 use Rattle.frames.specs.Layout.{Heading, Sound, laid_out}
@@ -103,25 +103,19 @@ frame_of h sound es = record {
   row = record { entries = es ++ replicate (7 - length es) none };
 }
 
-module _ (P : Entry → Type 0) (h : P none) where
-  all_nones : (k : ℕ) → AllByRecursion P (replicate k none)
-  all_nones zero = tt
-  all_nones (suc k) = (h, all_nones k)
-
 -- what is laid out for a participant spells that frame
 pub spells_well : {V : Type 0} (m : KindMeaning V) (h : Heading) (es : List Entry) (n cells q : ℕ) (sound : Sound h) → ForUs m h n cells q → length es ≡ n
-    → AllByRecursion (λ e. is_entry e ≡ true) es → AllByRecursion (λ e. valued m e ≡ true) es → Spells m (laid_out h es) n cells q (frame_of h sound es)
+    → All (λ e. is_entry e ≡ true) es → All (λ e. valued m e ≡ true) es → Spells m (laid_out h es) n cells q (frame_of h sound es)
 spells_well m h es n cells q sound us long proper counts =
     record {
-      faultless = faultless m h es n cells q sound us (record { long = long; counts = cleaned es proper counts });
+      faultless = faultless m h es n cells q sound us (record { long = long; counts = cleaned });
       heading = sym (heading_back h es sound);
       row = λ i. record { entries = sym (entries_back h es n long ∙ clean_all es proper) i ++ replicate (7 - long i) none };
       only_so = ap (laid_out h) (sym (take_at es _ n long));
-      proper = All-append _ es _ proper (all_nones (λ e. is_entry e ≡ true) refl (7 - length es));
-      counts = All-append _ es _ counts (all_nones (λ e. valued m e ≡ true) refl (7 - length es));
+      proper = All-append (λ e. is_entry e ≡ true) es _ proper (All-replicate (λ e. is_entry e ≡ true) (7 - length es) none refl);
+      counts = All-append (λ e. valued m e ≡ true) es _ counts (All-replicate (λ e. valued m e ≡ true) (7 - length es) none refl);
       for_us = us;
     }
   where
-    cleaned : (es : List Entry) → AllByRecursion (λ e. is_entry e ≡ true) es → AllByRecursion (λ e. valued m e ≡ true) es → AllByRecursion (λ e. valued m (clean e) ≡ true) es
-    cleaned [] p c = tt
-    cleaned (e ∷ es) p c = (subst (λ e. valued m e ≡ true) (sym (clean_same e p.0)) c.0, cleaned es p.1 c.1)
+    cleaned : All (λ e. valued m (clean e) ≡ true) es
+    cleaned k d lt = subst (λ e. valued m e ≡ true) (sym (clean_same (get_or es k d) (proper k d lt))) (counts k d lt)

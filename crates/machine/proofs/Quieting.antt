@@ -1,7 +1,7 @@
 -- One half of a quiet round: a row goes to all others, and each of them answers. Assumes nothing.
 use Rattle.std.proofs.Common.{◌≡◌, ℕ, ◌*◌, ◌<◌, ◌≤◌, true, false, cond, not, ◌&&◌, eqb, ltb, ◌⊎◌, List, [], ◌∷◌, ◌++◌, length, Ok, filter, sym, ap, ◌∙◌, subst, inl, inr, ⊎_elim, arith}
-use Rattle.std.specs.List.{range_with_len, AllByRecursion}
-use Rattle.std.proofs.ByRecursion.{All-append, All-weaker, All-map, kept_by_passes}
+use Rattle.std.specs.List.{range_with_len, All}
+use Rattle.std.proofs.lemmas.List.Elements.{All-nil, All-cons, All-append, All-weaker, All-map, filter_passes}
 use Rattle.std.proofs.lemmas.Bool.{cases_eq, and_parts, and_from, ltb-true, lt-ltb, eq-eqb, ne_eqb, both_ways, not_from_true, not_from_false}
 use Rattle.frames.specs.Layout.{Sound, entry_in}
 use Rattle.frames.specs.Sorts.{well_addressed}
@@ -120,7 +120,7 @@ module _ {V Q P S : Type 0} (m : Makes V Q P S) (kinds : KindLaws m.kind) (n cel
       pub own : (q : ℕ) → q < n → (q ≡ p → ⊥) → Ready (view x.table c q q)
       pub shown : (q : ℕ) → q < n → (q ≡ p → ⊥) → Ready (view x.table c p q)
       pub stage : (q : ℕ) → q < n → (q ≡ p → ⊥) → Stage x due q
-      pub all : AllByRecursion Expected due
+      pub all : All Expected due
 
     module _ {es fs : List (Event V)} {x z : Board Q P S} (tied : Tied m n cells rule es x) (after : Tied m n cells rule fs z)
         {due left : List Item} (mid : Midway x due) {item : Item} (without : Without item due left)
@@ -157,8 +157,8 @@ module _ {V Q P S : Type 0} (m : Makes V Q P S) (kinds : KindLaws m.kind) (n cel
         answered : Among (Answer r) owings
         answered = subst (Among (Answer r)) (sym owes) (inl answer)
 
-        expected : AllByRecursion Expected owings
-        expected = subst (AllByRecursion Expected) (sym owes) (record { other = r; within = in_row; differs = differs; what = inr answer }, tt)
+        expected : All Expected owings
+        expected = subst (All Expected) (sym owes) (All-cons Expected _ [] (record { other = r; within = in_row; differs = differs; what = inr answer }) (All-nil Expected))
 
         elsewhere : (q : ℕ) → (q ≡ r → ⊥) → Stage x due q → Stage z (left ++ owings) q
         elsewhere q ne (inl h) =
@@ -225,7 +225,7 @@ module _ {V Q P S : Type 0} (m : Makes V Q P S) (kinds : KindLaws m.kind) (n cel
               shown = λ q lt other. ⊎_elim (λ same. subst (λ j. Ready (view z.table c p j)) (sym same) (half.ready _ shows))
                   (λ ne. subst Ready (sym (then.beside q ne other)) (mid.shown q lt other)) (cases_eq q r);
               stage = λ q lt other. moves q other (mid.stage q lt other);
-              all = All-append Expected left none_owed (all_without Expected without mid.all).1 (subst (AllByRecursion Expected) (sym silent) tt);
+              all = All-append Expected left none_owed (all_without Expected without mid.all).1 (subst (All Expected) (sym silent) (All-nil Expected));
             }
 
     module _ {es fs : List (Event V)} {x z : Board Q P S} (tied : Tied m n cells rule es x) (after : Tied m n cells rule fs z) {q k kept : ℕ} {out filled : List ℕ}
@@ -302,7 +302,7 @@ module _ {V Q P S : Type 0} (m : Makes V Q P S) (kinds : KindLaws m.kind) (n cel
             shown = λ q lt other. subst Ready (sym (beside q other)) (half.fresh _ (all_fresh q lt other));
             stage = λ q lt other. inl (asked_all q lt other);
             all = All-map Expected letter_to others
-                (All-weaker (λ q. member (all_but y.table.n p) q ≡ true) (λ q. Expected (letter_to q)) expects others (kept_by_passes (member (all_but y.table.n p)) (range_with_len 0 8)));
+                (All-weaker (λ q. member (all_but y.table.n p) q ≡ true) (λ q. Expected (letter_to q)) expects others (filter_passes (member (all_but y.table.n p)) (range_with_len 0 8)));
           }
 
     -- and ends when nothing is due

@@ -1,6 +1,6 @@
 -- The board stays tied when a participant takes over what a frame shows. Assumes nothing.
 use Rattle.std.proofs.Common.{◌≡◌, ℕ, ◌*◌, ◌<◌, Bool, true, false, List, ◌∷◌, length, Ok, Err, Result, sym, refl, ap, ◌∙◌, subst, inl, inr}
-use Rattle.std.specs.List.{AllByRecursion}
+use Rattle.std.specs.List.{All}
 use Rattle.std.proofs.lemmas.List.{length-set}
 use Rattle.frames.proofs.Addresses.{ack_addressed, not_to_sender}
 use Rattle.frames.specs.Reading.{Spells}
@@ -110,13 +110,13 @@ module _ {V Q P S : Type 0} (m : Makes V Q P S) (kinds : KindLaws m.kind) (posts
     in_store after (inr saves) = (saves.1.1, saves.1.2)
 
     acked : (t : Bool) (answer : ℕ) (after : P) → Acks m t (with_rows x.table (renewed rows place q new)) x.post q c from answer after
-        → AllByRecursion (Ours m n x.table.cells (grown T.ledger c q new)) (m.post.items after)
+        → All (Ours m n x.table.cells (grown T.ledger c q new)) (m.post.items after)
     acked true answer after sends =
         ours_put m x es T ev q c new here.participant cell kept kinds posts (renewed rows place q new) x.post after Ack (single from) answer fit
         (ack_addressed n q from T.few here.participant sender (λ is. another (sym is))) sends
         (ours_after m x es T ev q c new here.participant cell kept)
     acked false answer after nothing =
-        subst (λ p. AllByRecursion (Ours m n x.table.cells (grown T.ledger c q new)) (m.post.items p)) (sym nothing.1) (ours_after m x es T ev q c new here.participant cell kept)
+        subst (λ p. All (Ours m n x.table.cells (grown T.ledger c q new)) (m.post.items p)) (sym nothing.1) (ours_after m x es T ev q c new here.participant cell kept)
 
     pub next_received : (r : Result ℕ Fault) (y : Board Q P S) → TakesOver m x q frame r y → Next m T ev y
     next_received (Err f) y h = next_stopped m x es T ev q c new here.participant cell kept f y h.1

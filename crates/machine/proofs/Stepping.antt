@@ -1,7 +1,7 @@
 -- Every step of a run leaves the board tied to ledgers that went on. Assumes nothing.
 use Rattle.std.proofs.Common.{◌≡◌, ℕ, ◌+◌, ◌*◌, ◌<◌, ◌≤◌, true, false, ◌⊎◌, List, ◌∷◌, get_or, take, drop, ℤ, ◌<ℤ◌, is_some, Ok, Err, Result, sym, refl, ap, ◌∙◌, subst, inl, inr, ⊎_elim, mul-le-mul_right, suc-mul, arith}
-use Rattle.std.specs.List.{AllByRecursion}
-use Rattle.std.proofs.ByRecursion.{All-get_or}
+use Rattle.std.specs.List.{All}
+use Rattle.std.proofs.lemmas.List.Elements.{All-get_or}
 use Rattle.std.proofs.lemmas.List.{take_at}
 use Rattle.std.proofs.lemmas.Int.{ints}
 use Rattle.std.proofs.lemmas.Bool.{cases_eq, cases_lt, and_from, and_parts, and_cases, ltb-true, eq-eqb, ne_eqb, lt-ltb, not_from_false, true≢false}
@@ -136,7 +136,7 @@ module _ {V Q P S : Type 0} (m : Makes V Q P S) (kinds : KindLaws m.kind) (posts
         (λ k. ap (λ s. m.store.at s k) store) (fit_reloaded p y.table.rows pn r) T.frames)
 
     -- the frames that are left after one was taken
-    abbrev retied : (post : P) → AllByRecursion (Ours m x.table.n x.table.cells T.ledger) (m.post.items post)
+    abbrev retied : (post : P) → All (Ours m x.table.n x.table.cells T.ledger) (m.post.items post)
         → Tied m x.table.n x.table.cells x.table.rule es (posted m x post)
     retied post frames =
         record {

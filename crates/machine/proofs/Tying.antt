@@ -1,6 +1,6 @@
 -- The board of a run stays tied to its ledgers: the parts of a step. Assumes nothing.
 use Rattle.std.proofs.Common.{◌≡◌, ℕ, ◌+◌, ◌*◌, ◌<◌, true, false, ◌&&◌, eqb, ltb, List, ◌∷◌, ◌++◌, length, sym, refl, ap, ◌∙◌, subst, inr, ⊎_elim, arith}
-use Rattle.std.specs.List.{AllByRecursion}
+use Rattle.std.specs.List.{All}
 use Rattle.std.proofs.lemmas.List.{length-set}
 use Rattle.std.proofs.lemmas.Bool.{cases_eq, or_parts, and_from, eq-eqb, lt-ltb, true≢false}
 use Rattle.frames.specs.Sorts.{well_addressed}
@@ -60,7 +60,7 @@ module _ {V Q P S : Type 0} (m : Makes V Q P S) where
       next : (L : ℕ → Ledger) → ((c : ℕ) → Onward (T.ledger c) (L c))
           → ((c : ℕ) → c < x.table.cells → Kept m.rule x.table.rule (HandedCode m (ev ∷ es) c) (L c))
           → m.store.places store ≡ m.store.places x.store → Keeps m.store x.table.n x.table.cells L store
-          → AllFit x.table.n x.table.cells L down rows → AllByRecursion (Ours m x.table.n x.table.cells L) (m.post.items post)
+          → AllFit x.table.n x.table.cells L down rows → All (Ours m x.table.n x.table.cells L) (m.post.items post)
           → Next T ev (board (changed x.table down rows) store post)
       next L on kept places keeps fit frames =
           record {
@@ -88,7 +88,7 @@ module _ {V Q P S : Type 0} (m : Makes V Q P S) where
 
       -- the ledgers stay
       pub next_still : m.store.places store ≡ m.store.places x.store → ((k : ℕ) → m.store.at store k ≡ m.store.at x.store k)
-          → AllFit x.table.n x.table.cells T.ledger down rows → AllByRecursion (Ours m x.table.n x.table.cells T.ledger) (m.post.items post)
+          → AllFit x.table.n x.table.cells T.ledger down rows → All (Ours m x.table.n x.table.cells T.ledger) (m.post.items post)
           → Next T ev (board (changed x.table down rows) store post)
       next_still places same = next T.ledger (λ _. still) wider places (λ i c lt cn. same (i * x.table.cells + c) ∙ T.store i c lt cn)
 
@@ -96,7 +96,7 @@ module _ {V Q P S : Type 0} (m : Makes V Q P S) where
       pub next_saved : (p c : ℕ) (e : Entry) → c < x.table.cells → Kept m.rule x.table.rule (HandedCode m (ev ∷ es) c) (saved (T.ledger c) p e)
           → m.store.at store (place_of x.table p c) ≡ e → OnlyAt m.store (place_of x.table p c) x.store store
           → AllFit x.table.n x.table.cells (grown T.ledger c p e) down rows
-          → AllByRecursion (Ours m x.table.n x.table.cells (grown T.ledger c p e)) (m.post.items post)
+          → All (Ours m x.table.n x.table.cells (grown T.ledger c p e)) (m.post.items post)
           → Next T ev (board (changed x.table down rows) store post)
       next_saved p c e cn kept at only =
           next (grown T.ledger c p e) (grown_onward T.ledger c p e) (grown_kept T.ledger c p e m.rule x.table.rule (HandedCode m (ev ∷ es)) x.table.cells wider kept)
@@ -112,7 +112,7 @@ module _ {V Q P S : Type 0} (m : Makes V Q P S) where
         (kept : Kept m.rule x.table.rule (HandedCode m (ev ∷ es) c) (saved (T.ledger c) p e))
       where
         -- the frames that wait are ours after it too
-        pub ours_after : AllByRecursion (Ours m x.table.n x.table.cells (grown T.ledger c p e)) (m.post.items x.post)
+        pub ours_after : All (Ours m x.table.n x.table.cells (grown T.ledger c p e)) (m.post.items x.post)
         ours_after = ours_onward m x.table.n x.table.cells T.ledger (grown T.ledger c p e) (grown_onward T.ledger c p e) (m.post.items x.post) T.frames
 
         -- a failed save: nobody saw the new entry, if it is kept
@@ -144,8 +144,8 @@ module _ {V Q P S : Type 0} (m : Makes V Q P S) where
           -- what is sent of a row that fits is ours
           pub ours_put : (rows : List Row) (before after : P) (sort : Sort) (to answer : ℕ) → AllFit x.table.n x.table.cells (grown T.ledger c p e) x.table.down rows
               → well_addressed sort x.table.n p to ≡ true → Sends m (with_rows x.table rows) before sort p c to answer after
-              → AllByRecursion (Ours m x.table.n x.table.cells (grown T.ledger c p e)) (m.post.items before)
-              → AllByRecursion (Ours m x.table.n x.table.cells (grown T.ledger c p e)) (m.post.items after)
+              → All (Ours m x.table.n x.table.cells (grown T.ledger c p e)) (m.post.items before)
+              → All (Ours m x.table.n x.table.cells (grown T.ledger c p e)) (m.post.items after)
           ours_put rows before after sort to answer fit ok sends old =
               all_put (Ours m x.table.n x.table.cells (grown T.ledger c p e)) m.post posts before after
               (sent m.kind x.table.n sort p c to (row_of (with_rows x.table rows) p c)) (member to) answer sends old

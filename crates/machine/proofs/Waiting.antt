@@ -1,7 +1,7 @@
 -- Waiting frames: what put and take do to them, and what a receiver reads in one. Assumes nothing.
 use Rattle.std.proofs.Common.{◌≡◌, ℕ, suc, ◌<◌, ◌≤◌, Bool, true, List, length, get_or, take, pos, sym, refl, ap, ◌∙◌, subst, ⊎_elim, arith}
-use Rattle.std.specs.List.{range_with_len, remove, AllByRecursion}
-use Rattle.std.proofs.ByRecursion.{All-weaker, All-take, All-drop, All-map, All-append, kept_by_passes}
+use Rattle.std.specs.List.{range_with_len, remove, All}
+use Rattle.std.proofs.lemmas.List.Elements.{All-cons, All-head, All-tail, All-weaker, All-take, All-drop, All-map, All-append, filter_passes}
 use Rattle.std.proofs.lemmas.List.{get_or_default, length-take-le}
 use Rattle.frames.proofs.ReadBack.{heading_back, entry_back}
 use Rattle.frames.proofs.Readings.{row_at}
@@ -26,28 +26,28 @@ use Rattle.machine.proofs.Invariant.{Ours}
 use Rattle.machine.proofs.Tables.{entry_taken}
 
 module _ (P : Item → Type 0) where
-  all_thinned : {left items : List Item} → Thinned left items → AllByRecursion P items → AllByRecursion P left
+  all_thinned : {left items : List Item} → Thinned left items → All P items → All P left
   all_thinned end h = h
-  all_thinned (stays t) h = (h.0, all_thinned t h.1)
-  all_thinned (goes t) h = all_thinned t h.1
+  all_thinned (stays t) h = All-cons P _ _ (All-head P _ _ h) (all_thinned t (All-tail P _ _ h))
+  all_thinned (goes t) h = all_thinned t (All-tail P _ _ h)
 
   module _ {T : Type 0} (m : PostMeaning T) where
     -- what holds of the items and of what is put holds after
-    pub all_put : PostLaws m → (before after : T) (frame : List ℕ) (to : ℕ → Bool) (answer : ℕ) → Puts m before frame to answer after → AllByRecursion P (m.items before)
-        → ((i : ℕ) → to i ≡ true → P (addressed frame i)) → AllByRecursion P (m.items after)
+    pub all_put : PostLaws m → (before after : T) (frame : List ℕ) (to : ℕ → Bool) (answer : ℕ) → Puts m before frame to answer after → All P (m.items before)
+        → ((i : ℕ) → to i ≡ true → P (addressed frame i)) → All P (m.items after)
     all_put laws before after frame to answer puts old new =
-        let passes = kept_by_passes (m.keeps before frame to) (range_with_len 0 8) in
+        let passes = filter_passes (m.keeps before frame to) (range_with_len 0 8) in
         let each = All-weaker (λ i. m.keeps before frame to i ≡ true) (λ i. P (addressed frame i)) (λ i keeps. new i (laws.offered before frame to i keeps)) (kept m before frame to) passes in
-        subst (AllByRecursion P) (sym puts.list) (All-append P puts.left _ (all_thinned puts.thinned old) (All-map P (addressed frame) (kept m before frame to) each))
+        subst (All P) (sym puts.list) (All-append P puts.left _ (all_thinned puts.thinned old) (All-map P (addressed frame) (kept m before frame to) each))
 
-    pub all_taken : (before after : T) (q k answer : ℕ) (out filled : List ℕ) → Taken m before q k out answer after filled → AllByRecursion P (m.items before) → AllByRecursion P (m.items after)
-    all_taken before after q k answer out filled takes old = ⊎_elim (λ is. subst (AllByRecursion P) (sym is) old) (λ is. subst (AllByRecursion P) (sym is) less) takes.list
+    pub all_taken : (before after : T) (q k answer : ℕ) (out filled : List ℕ) → Taken m before q k out answer after filled → All P (m.items before) → All P (m.items after)
+    all_taken before after q k answer out filled takes old = ⊎_elim (λ is. subst (All P) (sym is) old) (λ is. subst (All P) (sym is) less) takes.list
       where
-        less : AllByRecursion P (remove (m.items before) takes.index)
+        less : All P (remove (m.items before) takes.index)
         less = All-append P (take takes.index (m.items before)) _ (All-take P takes.index (m.items before) old) (All-drop P (suc takes.index) (m.items before) old)
 
 module _ {V Q P S : Type 0} (m : Makes V Q P S) (n cells : ℕ) where
-  pub ours_onward : (L M : ℕ → Ledger) → ((c : ℕ) → Onward (L c) (M c)) → (items : List Item) → AllByRecursion (Ours m n cells L) items → AllByRecursion (Ours m n cells M) items
+  pub ours_onward : (L M : ℕ → Ledger) → ((c : ℕ) → Onward (L c) (M c)) → (items : List Item) → All (Ours m n cells L) items → All (Ours m n cells M) items
   ours_onward L M on =
       All-weaker (Ours m n cells L) (Ours m n cells M)
       (λ item o. record {

@@ -1,7 +1,8 @@
 -- The two worked runs, call by call. Assumes nothing.
 use Rattle.std.proofs.Common.{◌≡◌, ℕ, zero, suc, ◌+◌, ◌-◌, ◌*◌, ◌<◌, ◌≤◌, Bool, true, false, ◌&&◌, eqb, ltb, ◌⊎◌, List, [], ◌∷◌, ◌++◌, reverse, length, get_or, take, drop, ℤ, pos, negsuc, ◌≤ℤ◌, ◌<ℤ◌, Some, None, Ok, Err, filter, sym, refl, ap, ◌∙◌, subst, inl, inr, arith}
 use lib.Count.{ones}
-use Rattle.std.specs.List.{range_with_len}
+use Rattle.std.specs.List.{range_with_len, All}
+use Rattle.std.proofs.lemmas.List.Elements.{All-nil, All-cons}
 use Rattle.std.proofs.lemmas.List.{take_at}
 use Rattle.std.proofs.lemmas.Int.{ints}
 use Rattle.std.proofs.lemmas.Bool.{ltb-true, and_parts, eq-eqb, ne_eqb}
@@ -18,7 +19,7 @@ use Rattle.kinds.specs.declared.glyph.Glyph.{Glyph}
 use Rattle.ledger.specs.Examples.{three}
 use Rattle.model.specs.Bytes.{raised}
 use Rattle.model.specs.Entries.{none, is_entry}
-use Rattle.model.specs.Faults.{save_failed}
+use Rattle.model.specs.declared.faults.Fault.TheVariants.{SaveFailed}
 use Rattle.model.specs.Sets.{member, all_but, single}
 use Rattle.model.specs.declared.entries.Entry.{Entry}
 use Rattle.model.specs.declared.rows.Row.{Row}
@@ -68,6 +69,9 @@ piled post sort p to a b c = put_on post (of_three sort p to a b c) (member to) 
 abbrev counts : Entry → Bool
 counts e = is_entry e && valued glyph_numbers e
 
+all_three : (P : Entry → Type 0) {a b c : Entry} → P a → P b → P c → All P (a ∷ b ∷ c ∷ [])
+all_three P {a} {b} {c} f g h = All-cons P a (b ∷ c ∷ []) f (All-cons P b (c ∷ []) g (All-cons P c [] h (All-nil P)))
+
 module _ (sort : Sort) (s to : ℕ) (small : ltb s 3 ≡ true) (ok : well_addressed sort 3 s to ≡ true) (a b c : Entry) where
   abbrev sound : Sound (heading sort s to)
   sound = record { some = omega arith; few = omega arith; sent = ltb-true s 3 small; known = omega arith; named = omega arith; addressed = ok }
@@ -89,7 +93,7 @@ module _ (sort : Sort) (s to : ℕ) (small : ltb s 3 ≡ true) (ok : well_addres
       let f = and_parts (is_entry a) (valued glyph_numbers a) first in
       let g = and_parts (is_entry b) (valued glyph_numbers b) second in
       let h = and_parts (is_entry c) (valued glyph_numbers c) third in
-      let spells = spells_well glyph_numbers (heading sort s to) (a ∷ b ∷ c ∷ []) x.table.n x.table.cells q sound us same_n (f.0, (g.0, (h.0, tt))) (f.1, (g.1, (h.1, tt))) in
+      let spells = spells_well glyph_numbers (heading sort s to) (a ∷ b ∷ c ∷ []) x.table.n x.table.cells q sound us same_n (all_three (λ e. is_entry e ≡ true) f.0 g.0 h.0) (all_three (λ e. valued glyph_numbers e ≡ true) f.1 g.1 h.1) in
       let opened = take_at frame (drop (length frame) buffer) (length frame) refl in
       record {
         open_door = opens;
@@ -207,7 +211,7 @@ stopped = board 1 (promised 3).table.rows (slate votes asks 0) (promised 3).post
 abbrev back : Plain
 back = board 0 (rows (row votes none none) (row asks asks none)) stopped.store stopped.post
 
-save_fails : Does plain (promised 3) (accept (turn 0 3) sixty_eight (Err (save_failed 0, turn 0 3))) stopped
+save_fails : Does plain (promised 3) (accept (turn 0 3) sixty_eight (Err (SaveFailed 0, turn 0 3))) stopped
 save_fails = (
   refl,
   inr (

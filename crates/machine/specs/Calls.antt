@@ -8,7 +8,7 @@ use Rattle.frames.specs.declared.reader.Frame.{Frame}
 use Rattle.frames.specs.declared.sort.Sort.{Sort}
 use Rattle.frames.specs.declared.sort.Sort.TheVariants.{Prepare, Accept, Ack}
 use Rattle.kinds.specs.Meaning.{KindMeaning}
-use Rattle.model.specs.Faults.{save_failed, no_item}
+use Rattle.model.specs.declared.faults.Fault.TheVariants.{SaveFailed, NoItem}
 use Rattle.model.specs.Sets.{member, all_but, single}
 use Rattle.model.specs.declared.entries.Entry.{Entry}
 use Rattle.model.specs.declared.faults.Fault.{Fault}
@@ -35,7 +35,7 @@ module _ {V Q P S : Type 0} (m : Makes V Q P S) where
 
   -- a failed save: 12 at the store's place, which holds the old entry or the new; participant p is down
   pub record Stopped (x : Board Q P S) (p place : ℕ) (e : Entry) (f : Fault) (y : Board Q P S) : Type 0 where
-    pub fault : f ≡ save_failed place
+    pub fault : f ≡ SaveFailed place
     pub saves : Saves m.store x.store place e (Err (record { place = place })) y.store
     pub table : y.table ≡ gone_down x.table p
     pub post : y.post ≡ x.post
@@ -138,7 +138,7 @@ module _ {V Q P S : Type 0} (m : Makes V Q P S) where
   abbrev pub Delivers : Board Q P S → ℕ → ℕ → List ℕ → Result ℕ Fault → Board Q P S → List ℕ → Type 0
   Delivers x q k out (Err f) y filled =
       (Refused (door x.table q) x f y × (filled ≡ out))
-      ⊎ (((door x.table q ≡ None) × (f ≡ no_item) × (y ≡ x) × Takes m.post x.post q k out None x.post filled)
+      ⊎ (((door x.table q ≡ None) × (f ≡ NoItem) × (y ≡ x) × Takes m.post x.post q k out None x.post filled)
       ⊎ Delivered x q k out (Err f) y filled)
   Delivers x q k out (Ok kept) y filled = Delivered x q k out (Ok kept) y filled
 

@@ -1,6 +1,6 @@
 -- What saving an own entry does to the store and to who is down. Assumes nothing.
 use Rattle.std.specs.Prelude.{◌≡◌, ℕ, ◌⊎◌, Ok, Err, Result, ◌≢◌}
-use Rattle.model.specs.Faults.{save_failed}
+use Rattle.model.specs.declared.faults.Fault.TheVariants.{SaveFailed}
 use Rattle.model.specs.Sets.{with}
 use Rattle.model.specs.declared.entries.Entry.{Entry}
 use Rattle.model.specs.declared.faults.Fault.{Fault}
@@ -11,7 +11,7 @@ module _ {S : Type 0} (m : StoreMeaning S) where
   abbrev pub Keeps : S → ℕ → ℕ → ℕ → Entry → Result (Unit {0}) Fault → S → ℕ → Type 0
   Keeps before down p place e (Ok u) after downs = Saves m before place e (Ok tt) after × (downs ≡ down)
   Keeps before down p place e (Err f) after downs =
-      Saves m before place e (Err (record { place = place })) after × (f ≡ save_failed place) × (downs ≡ with down p)
+      Saves m before place e (Err (record { place = place })) after × (f ≡ SaveFailed place) × (downs ≡ with down p)
 
   -- only an entry that changed is saved
   abbrev pub SavesChange : S → ℕ → Entry → Entry → S → Type 0

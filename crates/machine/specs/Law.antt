@@ -1,12 +1,13 @@
 -- What holds over every run of a fresh register. Assumes nothing.
 use Rattle.std.specs.Prelude.{◌≡◌, ℕ, ◌-◌, ◌<◌, true, false, cond, ◌⊎◌, List, [], ◌∷◌, ◌++◌, map, length, ℤ, ◌≤ℤ◌, ◌<ℤ◌, Some, Ok, Err, filter, Result, ◌≢◌, slice_index_or}
-use Rattle.std.specs.List.{range_with_len, AllByRecursion}
+use Rattle.std.specs.List.{range_with_len, All}
 use Rattle.frames.specs.Layout.{heading_in, entry_in}
 use Rattle.frames.specs.declared.reader.Frame.{Frame}
 use Rattle.frames.specs.declared.sort.Sort.{Sort}
 use Rattle.frames.specs.declared.sort.Sort.TheVariants.{Prepare, Accept, Ack}
 use Rattle.model.specs.Sets.{member, all_but, single}
 use Rattle.model.specs.declared.entries.Entry.{Entry}
+use Rattle.model.specs.Faults.{number_of}
 use Rattle.model.specs.declared.faults.Fault.{Fault}
 use Rattle.posts.specs.Meaning.{Item, addressed, no_item}
 use Rattle.steps.specs.Entries.{behind}
@@ -43,7 +44,7 @@ pub data Without (item : Item) : List Item → List Item → Type 0 where
 -- no save failed
 abbrev pub Saved : {X F : Type 0} → (F → Fault) → Result X F → Type 0
 Saved fault (Ok x) = Unit {0}
-Saved fault (Err f) = (fault f).number ≡ 12 → ⊥
+Saved fault (Err f) = number_of (fault f) ≡ 12 → ⊥
 
 module _ {V Q P S : Type 0} (m : Makes V Q P S) where
   -- participant p reads ballot b and value v in cell c
@@ -57,7 +58,7 @@ module _ {V Q P S : Type 0} (m : Makes V Q P S) where
   -- no entry of a row or of a waiting frame is ahead of what the store keeps for its owner
   pub record Behind (x : Board Q P S) : Type 0 where
     pub rows : (p c i : ℕ) → p < x.table.n → c < x.table.cells → i < x.table.n → AtMost (entry_at (row_of x.table p c) i) (stored x i c)
-    pub frames : AllByRecursion (λ item. (i : ℕ) → i < x.table.n → AtMost (entry_in item.frame i) (stored x i (heading_in item.frame).cell)) (m.post.items x.post)
+    pub frames : All (λ item. (i : ℕ) → i < x.table.n → AtMost (entry_in item.frame i) (stored x i (heading_in item.frame).cell)) (m.post.items x.post)
 
   -- one item for each addressee of participant p's row
   abbrev pub to_others : Board Q P S → Sort → ℕ → ℕ → List Item
@@ -83,7 +84,7 @@ module _ {V Q P S : Type 0} (m : Makes V Q P S) where
         (d : Delivered m x q k out (Ok kept) z filled) → Without (taken d) due left → kept ≡ length (owed z q d.receives.1.0)
         → Quiet z (left ++ owed z q d.receives.1.0) y → Quiet x due y
     refused : {x y z : Board Q P S} {q k : ℕ} {out filled : List ℕ} {f : Fault} {due left : List Item}
-        (d : Delivered m x q k out (Err f) z filled) → Without (taken d) due left → (f.number ≢ 12)
+        (d : Delivered m x q k out (Err f) z filled) → Without (taken d) due left → (number_of f ≢ 12)
         → Quiet z left y → Quiet x due y
 
   -- nobody is down, and b is participant p's and above every promise that a row of cell c shows

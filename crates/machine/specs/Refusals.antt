@@ -1,22 +1,14 @@
 -- Which refusal comes first. Assumes nothing.
-use Rattle.std.specs.Prelude.{◌≡◌, ℕ, ◌*◌, ◌%◌, Bool, false, cond, not, ◌&&◌, List, length, ℤ, pos, negsuc, Some, None, Ok, Err, Option, Result, ◌==◌, int_lt, nat_le, nat_lt}
+use Rattle.std.specs.Prelude.{◌≡◌, ℕ, ◌*◌, ◌%◌, Bool, false, not, ◌&&◌, List, length, ℤ, pos, negsuc, Some, None, Ok, Err, Option, Result, ◌==◌, int_lt, nat_le, nat_lt}
 use Rattle.std.specs.Option.{option_or}
-use Rattle.model.specs.Faults.{nowhere, is_down, not_its_ballot, promised_already, not_promised, voted_already, too_few}
+use Rattle.model.specs.declared.faults.Fault.TheVariants.{Nowhere, IsDown, NotItsBallot, PromisedAlready, NotPromised, VotedAlready, TooFew}
+use Rattle.model.specs.Checks.{demand}
 use Rattle.model.specs.Sets.{member}
 use Rattle.model.specs.declared.entries.Entry.{Entry}
 use Rattle.model.specs.declared.faults.Fault.{Fault}
 use Rattle.steps.specs.Rows.{same_ballot, entry_at, promised}
 use Rattle.quorums.specs.Meaning.{RuleMeaning}
 use Rattle.machine.specs.Board.{Table, row_of}
-
--- a check: the fault where it does not pass
-abbrev pub demand : Bool → Fault → Option Fault
-demand passes fault = cond passes None (Some fault)
-
--- the answer of checks: the fault, or what was asked for
-abbrev pub unless : {X : Type 0} → Option Fault → X → Result X Fault
-unless (Some fault) x = Err fault
-unless None x = Ok x
 
 -- checks that lead to something: the fault, or a thing of which P holds
 abbrev pub Opens : {X : Type 0} → Option Fault → (X → Type 0) → Result X Fault → Type 0
@@ -31,12 +23,12 @@ owns n p (negsuc k) = false
 -- 2 and 3 of a call that names a participant, over so many rows
 abbrev pub door_at : ℕ → ℕ → ℕ → ℕ → ℕ → Option Fault
 door_at n cells down rows p =
-    option_or (demand (nat_lt p n && rows == n * cells) nowhere) (demand (not (member down p)) is_down)
+    option_or (demand (nat_lt p n && rows == n * cells) Nowhere) (demand (not (member down p)) IsDown)
 
 -- 2 and 3 of a call that names a participant and a cell
 abbrev pub cell_door_at : ℕ → ℕ → ℕ → ℕ → ℕ → ℕ → Option Fault
 cell_door_at n cells down rows p c =
-    option_or (demand (nat_lt p n && nat_lt c cells && rows == n * cells) nowhere) (demand (not (member down p)) is_down)
+    option_or (demand (nat_lt p n && nat_lt c cells && rows == n * cells) Nowhere) (demand (not (member down p)) IsDown)
 
 module _ {Q : Type 0} (t : Table Q) where
   abbrev pub door : ℕ → Option Fault
@@ -48,7 +40,7 @@ module _ {Q : Type 0} (t : Table Q) where
 -- 4 and 5 of participant p with ballot b, over its row
 abbrev pub promise_fault : ℕ → List Entry → ℕ → ℤ → Option Fault
 promise_fault n row p b =
-    option_or (demand (owns n p b) not_its_ballot) (demand (int_lt (entry_at row p).promise b) promised_already)
+    option_or (demand (owns n p b) NotItsBallot) (demand (int_lt (entry_at row p).promise b) PromisedAlready)
 
 -- prepare: the door, then 4 and 5
 abbrev pub prepare_refusal : {Q : Type 0} → Table Q → ℕ → ℕ → ℤ → Option Fault
@@ -58,10 +50,10 @@ module _ {Q : Type 0} (m : RuleMeaning Q) where
   -- 6, 7 and 8 of participant p with a round's ballot b, over its row
   abbrev pub vote_fault : Q → ℕ → List Entry → ℕ → ℤ → Option Fault
   vote_fault rule n row p b =
-      option_or (demand (owns n p b) not_promised)
-      (option_or (demand (same_ballot (entry_at row p).promise b) not_promised)
-      (option_or (demand (not (same_ballot (entry_at row p).vote b)) voted_already)
-      (demand (m.promises rule (promised row n b)) too_few)))
+      option_or (demand (owns n p b) NotPromised)
+      (option_or (demand (same_ballot (entry_at row p).promise b) NotPromised)
+      (option_or (demand (not (same_ballot (entry_at row p).vote b)) VotedAlready)
+      (demand (m.promises rule (promised row n b)) TooFew)))
 
   -- accept: the door, then 6, 7 and 8
   abbrev pub accept_refusal : Table Q → ℕ → ℕ → ℤ → Option Fault

@@ -5,7 +5,7 @@ use Rattle.kinds.specs.Examples.{GlyphExamples, PlaceExamples}
 use Rattle.kinds.specs.Glyphs.{glyph_numbers}
 use Rattle.ledger.specs.Examples.{three}
 use Rattle.model.specs.Entries.{none}
-use Rattle.model.specs.Faults.{not_its_ballot, too_few}
+use Rattle.model.specs.declared.faults.Fault.TheVariants.{NotItsBallot, TooFew}
 use Rattle.model.specs.Sets.{all_but}
 use Rattle.model.specs.declared.entries.Entry.{Entry}
 use Rattle.quorums.specs.Examples.{MajorityExamples, WeightedExamples}
@@ -33,12 +33,12 @@ pub record Specimens : Type 0 where
   -- the frame of the first prepare of ballot 3 by participant 0 in cell 0, of kind 1
   pub frame : sent glyph_numbers 3 Prepare 0 0 (all_but 3 0) asking_row ≡ 0x13 ∷ 0x01 ∷ 0x06 ∷ 0x00 ∷ 0x00 ∷ 0x00 ∷ 0x04 ∷ replicate 33 0x00
   -- ballot 4 is not participant 0's
-  pub not_its_own : promise_fault 3 (fresh_row 0) 0 (pos 4) ≡ Some not_its_ballot
+  pub not_its_own : promise_fault 3 (fresh_row 0) 0 (pos 4) ≡ Some NotItsBallot
   -- 16777214 is the last ballot, and participant 2's; the next is nobody's
   pub last_ballot : promise_fault 3 (fresh_row 2) 2 (pos 16777214) ≡ None
-  pub past_last : (p : ℕ) → promise_fault 3 (fresh_row p) p (pos 16777215) ≡ Some not_its_ballot
+  pub past_last : (p : ℕ) → promise_fault 3 (fresh_row p) p (pos 16777215) ≡ Some NotItsBallot
   -- an accept before any ack
-  pub unpromised : vote_fault majority three 3 asking_row 0 (pos 3) ≡ Some too_few
+  pub unpromised : vote_fault majority three 3 asking_row 0 (pos 3) ≡ Some TooFew
   -- two of four do not suffice, three do
   pub majorities : MajorityExamples
   -- weights 3, 1 and 1 with thresholds 3 and 3, and with 2 and 3

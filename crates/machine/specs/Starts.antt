@@ -1,13 +1,13 @@
 -- Set-up and restart: rows that start again from the store. Assumes nothing.
 use Rattle.std.specs.Prelude.{◌≡◌, ℕ, ◌+◌, ◌*◌, ◌<◌, ◌≤◌, Bool, true, false, ◌&&◌, ◌⊎◌, List, [], length, replicate, Some, None, Ok, Err, Option, Result, ◌==◌, nat_le, nat_lt, slice_index_or, slice_set}
 use Rattle.model.specs.Entries.{none}
-use Rattle.model.specs.Faults.{unfit, nowhere}
+use Rattle.model.specs.declared.faults.Fault.TheVariants.{Unfit, Nowhere}
 use Rattle.model.specs.Sets.{without}
 use Rattle.model.specs.declared.entries.Entry.{Entry}
 use Rattle.model.specs.declared.faults.Fault.{Fault}
 use Rattle.model.specs.declared.rows.Row.{Row}
 use Rattle.machine.specs.Board.{Makes, Table}
-use Rattle.machine.specs.Refusals.{demand}
+use Rattle.model.specs.Checks.{demand}
 
 -- the row that a participant starts with: its own entry, and no view of anybody
 abbrev pub first_row : ℕ → Entry → Row
@@ -29,7 +29,7 @@ module _ {V Q P S : Type 0} (m : Makes V Q P S) where
 
   -- restart is refused by 2 alone
   abbrev pub restart_refusal : Table Q → ℕ → Option Fault
-  restart_refusal t p = demand (nat_lt p t.n && length t.rows == t.n * t.cells) nowhere
+  restart_refusal t p = demand (nat_lt p t.n && length t.rows == t.n * t.cells) Nowhere
 
   pub record Restarted (t : Table Q) (store : S) (p : ℕ) (u : Table Q) : Type 0 where
     pub reloaded : Reloaded t.cells store p t.rows u.rows
@@ -52,5 +52,5 @@ module _ {V Q P S : Type 0} (m : Makes V Q P S) where
 
   -- set-up: the answer and the rows after it make the table
   abbrev pub SetsUp : {R : Type 0} → (R → List Row → Table Q) → ℕ → ℕ → Q → List Row → S → Result R Fault → List Row → Type 0
-  SetsUp table n cells rule rows store (Err f) after = (fits n cells rule (length rows) store ≡ false) × (f ≡ unfit) × (after ≡ rows)
+  SetsUp table n cells rule rows store (Err f) after = (fits n cells rule (length rows) store ≡ false) × (f ≡ Unfit) × (after ≡ rows)
   SetsUp table n cells rule rows store (Ok r) after = (fits n cells rule (length rows) store ≡ true) × Started n cells rule store (table r after)

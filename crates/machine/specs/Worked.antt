@@ -1,14 +1,15 @@
 -- Two worked runs of a register of three participants and one cell, under the majority rule and of glyph numbers. Assumes nothing.
 use Rattle.std.specs.Prelude.{◌≡◌, ℕ, true, not, ◌&&◌, ◌||◌, List, [], ◌∷◌, ◌++◌, reverse, length, drop, replicate, pos, None, Ok, Err, ◌==◌, nat_lt, slice_index_or}
 use Rattle.std.proofs.Common.{leb→le}
-use Rattle.std.specs.List.{AllByRecursion}
+use Rattle.std.specs.List.{All}
+use Rattle.std.proofs.lemmas.List.Elements.{All-nil}
 use Rattle.frames.specs.declared.sort.Sort.{Sort}
 use Rattle.frames.specs.declared.sort.Sort.TheVariants.{Prepare, Accept, Ack}
 use Rattle.kinds.specs.Glyphs.{glyph_numbers}
 use Rattle.kinds.specs.declared.glyph.Glyph.{Glyph}
 use Rattle.ledger.specs.Examples.{three}
 use Rattle.model.specs.Entries.{none, clean}
-use Rattle.model.specs.Faults.{save_failed}
+use Rattle.model.specs.declared.faults.Fault.TheVariants.{SaveFailed}
 use Rattle.model.specs.Sets.{all_but, single}
 use Rattle.model.specs.declared.entries.Entry.{Entry}
 use Rattle.posts.specs.Meaning.{Item, PostMeaning, PostLaws, sendable, addressed}
@@ -25,7 +26,7 @@ use Rattle.machine.specs.Starts.{first_row, fits, Started}
 -- a post that keeps each frame it can carry, for all it is offered to
 pub record Pile : Type 0 where
   pub items : List Item
-  pub carried : AllByRecursion (λ item. sendable item.frame ≡ true) items
+  pub carried : All (λ item. sendable item.frame ≡ true) items
 
 abbrev pub pile_means : PostMeaning Pile
 pile_means = record { items = λ p. p.items; keeps = λ p frame to q. sendable frame && to q }
@@ -50,7 +51,7 @@ abbrev pub start : ℕ → Board Majority Pile Slate
 start until = record {
   table = record { n = 3; cells = 1; rule = three; down = 0; rows = first_row 0 none ∷ first_row 1 none ∷ first_row 2 none ∷ [] };
   store = record { entries = none ∷ none ∷ none ∷ []; until = until };
-  post = record { items = []; carried = tt };
+  post = record { items = []; carried = All-nil (λ item. sendable item.frame ≡ true) };
 }
 
 abbrev pub sixty_eight : Glyph
@@ -99,7 +100,7 @@ choosing =
 
 -- the save of 0's vote fails, and 0 starts again
 abbrev pub failing : List (Event Glyph)
-failing = accept (turn 0 3) sixty_eight (Err (save_failed 0, turn 0 3)) ∷ restart 0 (Ok tt) ∷ []
+failing = accept (turn 0 3) sixty_eight (Err (SaveFailed 0, turn 0 3)) ∷ restart 0 (Ok tt) ∷ []
 
 -- the entries of the second round, with ballot 4
 abbrev pub asks_again : Entry
