@@ -1,10 +1,10 @@
 -- Lemmas for a session that opens. Assumes nothing.
-use Rattle.std.proofs.Common.{◌≡◌, ℕ, ◌*◌, ◌≤◌, Bool, true, false, ◌&&◌, T, List, [], Ok, sym, refl, ap, ◌∙◌, subst, mul-le-mul, arith}
+use Rattle.std.proofs.Common.{◌≡◌, ℕ, ◌*◌, Bool, true, false, ◌&&◌, T, List, [], Ok, sym, refl, ap, ◌∙◌, subst, arith}
 use Rattle.std.specs.Option.{ok_or}
 use Rattle.std.proofs.lemmas.Bool.{le-leb, eq-eqb}
 use Rattle.machine.specs.Board.{Board, with_rows}
 use Rattle.machine.specs.Starts.{fits, Started}
-use Rattle.model.specs.Faults.{no_rule}
+use Rattle.model.specs.declared.faults.Fault.TheVariants.{NoRule}
 use Rattle.model.specs.Makers.{made_if}
 use Rattle.model.specs.declared.rows.Row.{Row}
 use Rattle.posts.specs.Lines.{line_items}
@@ -15,17 +15,15 @@ use Rattle.quorums.specs.declared.majority.Majority.{Majority}
 use Rattle.stores.specs.Meaning.{Fresh}
 use Rattle.stores.specs.Page.{page_means}
 use Rattle.stores.specs.declared.page.PageStore.{PageStore}
-use Rattle.register.specs.Benches.{our_makes, in_range, Laid}
+use Rattle.register.specs.Benches.{our_makes, Laid}
+use Rattle.register.specs.Ranges.{in_range}
 
--- a rule that was made is for so many, and they are at most seven
+-- a rule that was made is for so many
 pub rule_for : (n : ℕ) (rule : Majority) → made_majority n ≡ Ok rule → rule.n ≡ n
 rule_for n rule = go (is_size n) (λ t. record { n = n; ok = t }) (λ t. refl) where
-  go : (test : Bool) (make : T test → Majority) → ((t : T test) → (make t).n ≡ n) → ok_or (made_if test make) no_rule ≡ Ok rule → rule.n ≡ n
+  go : (test : Bool) (make : T test → Majority) → ((t : T test) → (make t).n ≡ n) → ok_or (made_if test make) NoRule ≡ Ok rule → rule.n ≡ n
   go true make same e = let is : make tt ≡ rule = cc in sym (ap (λ q. q.n) is) ∙ same tt
   go false make same e = let z : ◌≡◌ {A = ℕ} 0 1 = cc in omega arith
-
-pub few_places : (n cells : ℕ) → n ≤ 7 → cells ≤ 64 → n * cells ≤ 448
-few_places n cells a b = mul-le-mul a b
 
 all_hold : (s e f g : Bool) → e ≡ true → f ≡ true → g ≡ true → s && e && f && g ≡ s
 all_hold true e f g a b c = λ i. true && a i && b i && c i

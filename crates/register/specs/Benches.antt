@@ -1,5 +1,5 @@
 -- A register with its rows, its line and its page, as a session runs it. Assumes nothing.
-use Rattle.std.specs.Prelude.{◌≡◌, ℕ, ◌*◌, Bool, true, false, cond, ◌&&◌, [], ℤ, pos, negsuc, Some, None, Ok, Err, vec_items, Option, Result, nat_le, nat_lt}
+use Rattle.std.specs.Prelude.{◌≡◌, ℕ, ◌*◌, true, false, cond, [], ℤ, pos, negsuc, Some, None, Ok, Err, vec_items, Option, Result, nat_lt}
 use Rattle.kinds.specs.Glyphs.{glyph_numbers}
 use Rattle.kinds.specs.declared.glyph.Glyph.{Glyph}
 use Rattle.machine.specs.Board.{Makes, makes, Board, Turn}
@@ -8,11 +8,11 @@ use Rattle.model.specs.declared.faults.Fault.{Fault}
 use Rattle.posts.specs.Lines.{line_items, line_means}
 use Rattle.posts.specs.declared.line.Line.{Line}
 use Rattle.quorums.specs.Majorities.{majority, made_majority}
-use Rattle.quorums.specs.Sizes.{is_size}
 use Rattle.quorums.specs.declared.majority.Majority.{Majority}
 use Rattle.stores.specs.Meaning.{Fresh}
 use Rattle.stores.specs.Page.{page_means}
 use Rattle.stores.specs.declared.page.PageStore.{PageStore}
+use Rattle.register.specs.Ranges.{in_range}
 use Rattle.register.specs.State.{board}
 use Rattle.register.specs.declared.bench.Bench.{Bench}
 
@@ -36,10 +36,6 @@ of_ballot p c (Err f) = Err f
 abbrev pub handed_back : Turn → Result (Glyph × ℕ) Fault → Result (Glyph × ℕ) (Fault × Turn)
 handed_back round (Ok answer) = Ok answer
 handed_back round (Err f) = Err (f, round)
-
--- 2 to 7 participants and 1 to 64 cells
-abbrev pub in_range : ℕ → ℕ → Bool
-in_range n cells = is_size n && nat_le 1 cells && nat_le cells 64
 
 -- the register is set up, and nothing is stored or sent yet
 pub record Laid (n cells : ℕ) (y : Board Majority Line PageStore) : Type 0 where

@@ -6,7 +6,7 @@ use Rattle.register.specs.declared.register.Register.{Register}
 use Rattle.register.specs.declared.round.Round.{Round}
 
 abbrev pub table : {K Q P S : Type 0} → Register K Q P S → List Row → Table Q
-table r rows = record { n = r.n; cells = r.cells; rule = r.rule; down = r.down; rows = rows }
+table r rows = record { n = r.size.n; cells = r.size.cells; rule = r.rule; down = r.down; rows = rows }
 
 abbrev pub board : {K Q P S : Type 0} → Register K Q P S → List Row → S → P → Board Q P S
 board r rows store post = record { table = table r rows; store = store; post = post }

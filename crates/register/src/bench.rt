@@ -10,9 +10,9 @@ ghost use Rattle.register.specs.Benches.{our_makes, bench_board, as_ballot, of_b
 
 use crate::register::Register;
 use crate::round::Round;
+use crate::size::Size;
 use kinds::glyph::Glyph;
 use kinds::glyph_numbers::GlyphNumbers;
-use model::entries::Entry;
 use model::faults::Fault;
 use model::rows::Row;
 use posts::line::Line;
@@ -34,61 +34,63 @@ impl Bench {
     pub(crate) fn new(heap: Global, n: usize, cells: usize) -> Result<Option<Bench>, AllocError>
         ensures { IfOk result (λ bench. Lays n cells (option_map bench_board bench)) }
     {
+        let Some(size) = Size::new(n, cells) else {
+            return Ok(None);
+        };
         let Ok(rule) = Majority::new(n) else {
             return Ok(None);
         };
-        if cells < 1 || cells > 64 {
-            return Ok(None);
-        }
         let line = Line::new(heap)?;
-        let page = blank_page(heap, n * cells)?;
-        let mut rows = blank_rows(heap, n * cells)?;
-        match Register::set_up(n, cells, rule, rows.as_mut_slice(), &page) {
-            Ok(register) => Ok(Some(Bench {
-                register,
-                rows,
-                line,
-                page,
-            })),
-            Err(_) => Ok(None),
-        }
+        let page = blank_page(heap, size.places())?;
+        let mut rows = blank_rows(heap, size.places())?;
+        let Ok(register) = Register::set_up(n, cells, rule, rows.as_mut_slice(), &page) else {
+            return Ok(None);
+        };
+        Ok(Some(Bench {
+            register,
+            rows,
+            line,
+            page,
+        }))
+    }
+
+    pub(crate) fn size(&self) -> Size
+        ensures { result ≡ self.now.register.size }
+    {
+        self.register.size()
     }
 
     // Prepares, and tells the round by its ballot.
     pub(crate) fn prepare(&mut self, p: usize, c: usize, b: u32) -> Result<(i32, usize), Fault>
         ensures { Does our_makes (bench_board self.old) (prepare_event p c (pos b) (of_ballot p c result)) (bench_board self.new) }
     {
-        match self.register.prepare(
+        let (round, kept) = self.register.prepare(
             self.rows.as_mut_slice(),
             &mut self.page,
             &mut self.line,
             p,
             c,
             as_ballot(b),
-        ) {
-            Ok((round, kept)) => Ok((round.spend(), kept)),
-            Err(fault) => Err(fault),
-        }
+        )?;
+        Ok((round.spend(), kept))
     }
 
     // Accepts. The round is over for the caller, taken or refused.
     pub(crate) fn accept(&mut self, round: Round, glyph: Glyph) -> Result<(Glyph, usize), Fault>
         ensures { Does our_makes (bench_board self.old) (accept_event (turn round) glyph (handed_back (turn round) result)) (bench_board self.new) }
     {
-        match self.register.accept(
-            self.rows.as_mut_slice(),
-            &mut self.page,
-            &mut self.line,
-            round,
-            glyph,
-        ) {
-            Ok(answer) => Ok(answer),
-            Err(refused) => {
-                let (fault, round) = refused;
+        self.register
+            .accept(
+                self.rows.as_mut_slice(),
+                &mut self.page,
+                &mut self.line,
+                round,
+                glyph,
+            )
+            .map_err(|(fault, round)| {
                 round.abandon();
-                Err(fault)
-            }
-        }
+                fault
+            })
     }
 
     pub(crate) fn deliver(
@@ -123,7 +125,7 @@ impl Bench {
     }
 }
 
-// A number of a line as a ballot. One that is too great for that is no ballot, and -1 is none either.
+// A number of a line as a ballot. One that is too great for that is no ballot, and -1 is none either. (i32::try_from takes one number more, 0x7fff_ffff.)
 fn as_ballot(b: u32) -> i32
     ensures { result ≡ as_ballot b }
 {
@@ -142,8 +144,5 @@ fn blank_page(heap: Global, places: usize) -> Result<PageStore, AllocError>
 fn blank_rows(heap: Global, places: usize) -> Result<Vec<Row>, AllocError>
     ensures { IfOk result (λ rows. vec_len rows ≡ places) }
 {
-    let empty = Row {
-        entries: [Entry::none(); 7],
-    };
-    Ok(vec![in heap; empty; places]?)
+    Ok(vec![in heap; Row::empty(); places]?)
 }

@@ -12,6 +12,6 @@ pub struct Desk {
     bench: Bench,
     held: Held,
     buffer: [u8; 88],
-    ghost same_n: { held.n ≡ bench.register.n },
-    ghost same_cells: { held.cells ≡ bench.register.cells },
+    ghost same_n: { held.size.n ≡ bench.register.size.n },
+    ghost same_cells: { held.size.cells ≡ bench.register.size.cells },
 }

@@ -8,3 +8,4 @@ mod held;
 pub mod register;
 pub mod round;
 pub mod session;
+mod size;

@@ -1,6 +1,5 @@
 // A register: n participants, so many cells, one quorum rule, and who is down.
-ghost use Rattle.std.specs.Prelude.{◌≤◌};
-
+use crate::size::Size;
 use std::marker::PhantomData;
 
 mod accept;
@@ -12,18 +11,14 @@ mod receive;
 mod save;
 mod set_up;
 
-// The rows, the store and the post are the caller's and are handed to each call. Participant p's row of cell c is row p * cells + c, and its place in the store has the same number.
+// The rows, the store and the post are the caller's and are handed to each call, one by one: of a struct of the three references each call would owe that it keeps them. A participant, a cell and an item are numbers of the call too: a pair would be packed only to be taken apart. Participant p's row of cell c is row p * cells + c, and its place in the store has the same number.
+// That the rule is for size.n is a fact of set-up: a ghost field that says it would ask Q: QuorumRule of whoever names the type.
 #[derive(Drop)]
 pub struct Register<K, Q, P, S> {
-    n: usize,
-    cells: usize,
+    size: Size,
     rule: Q,
     down: u8,
     kind: PhantomData<K>,
     post: PhantomData<P>,
     store: PhantomData<S>,
-    ghost some: { 2 ≤ n },
-    ghost few: { n ≤ 7 },
-    ghost some_cells: { 1 ≤ cells },
-    ghost few_cells: { cells ≤ 64 },
 }

@@ -3,7 +3,6 @@ use crate::broken::Broken;
 use crate::rounds::refusal;
 use kinds::glyph::Glyph;
 use kinds::glyph_numbers::GlyphNumbers;
-use model::entries::Entry;
 use model::faults::{Fault, Layer};
 use model::rows::Row;
 use posts::line::Line;
@@ -19,17 +18,11 @@ type Office = Register<GlyphNumbers, Majority, Line, PageStore>;
 type Frail = Register<GlyphNumbers, Majority, Line, Broken>;
 
 fn blank() -> [Row; 3] {
-    [Row {
-        entries: [Entry::none(); 7],
-    }; 3]
+    [Row::empty(); 3]
 }
 
-fn fault(layer: Layer, number: u8, place: usize) -> Fault {
-    Fault {
-        layer,
-        number,
-        place,
-    }
+fn told(fault: Fault) -> (Layer, u8, usize) {
+    (fault.layer(), fault.number(), fault.place())
 }
 
 #[test]
@@ -40,7 +33,7 @@ fn set_up_refuses(rt: HostRuntime) -> Result<(), Fail> {
     match Office::set_up(3, 1, rule, &mut rows, &page) {
         Ok(_) => Err(Fail::new("35 bytes have no three places")),
         Err(f) => {
-            assert_eq!(rt; f, fault(Layer::SetUp, 1, 0));
+            assert_eq!(rt; told(f), (Layer::SetUp, 1, 0));
             Ok(())
         },
     }
@@ -53,11 +46,11 @@ fn a_failed_save_takes_the_participant_down(rt: HostRuntime) -> Result<(), Fail>
     let mut line = Line::new(rt.alloc())?;
     let mut office = Frail::set_up(3, 1, Majority::new(3)?, &mut rows, &store)?;
     let first = refusal(office.prepare(&mut rows, &mut store, &mut line, 1, 0, 4));
-    assert_eq!(rt; first, Some(fault(Layer::Store, 12, 1)));
+    assert_eq!(rt; first.map(told), Some((Layer::Store, 12, 1)));
     assert_eq!(rt; rows[1].entries[1].promise, -1);
     assert_eq!(rt; line.waiting(0), 0);
     let second = refusal(office.prepare(&mut rows, &mut store, &mut line, 1, 0, 4));
-    assert_eq!(rt; second, Some(fault(Layer::Door, 3, 0)));
+    assert_eq!(rt; second.map(told), Some((Layer::Door, 3, 0)));
     Ok(())
 }
 
@@ -75,22 +68,25 @@ fn the_reader_refuses(rt: HostRuntime) -> Result<(), Fail> {
     assert_eq!(rt;
         office
             .receive(&mut rows, &mut page, &mut line, 1, &[1, 2])
-            .err(),
-        Some(fault(Layer::Reader, 10, 2))
+            .err()
+            .map(told),
+        Some((Layer::Reader, 10, 2))
     );
     frame[3] = 1;
     assert_eq!(rt;
         office
             .receive(&mut rows, &mut page, &mut line, 1, &frame)
-            .err(),
-        Some(fault(Layer::Reader, 11, 3))
+            .err()
+            .map(told),
+        Some((Layer::Reader, 11, 3))
     );
     frame[3] = 0;
     assert_eq!(rt;
         office
             .receive(&mut rows, &mut page, &mut line, 0, &frame)
-            .err(),
-        Some(fault(Layer::Reader, 11, 2))
+            .err()
+            .map(told),
+        Some((Layer::Reader, 11, 2))
     );
     assert_eq!(rt;
         office
@@ -123,7 +119,7 @@ fn a_round_comes_back_and_is_used_again(rt: HostRuntime) -> Result<(), Fail> {
                 .deliver(&mut rows, &mut page, &mut line, 0, 0, &mut buffer)
                 .ok();
             let again = accepted(office.accept(&mut rows, &mut page, &mut line, round, glyph));
-            assert_eq!(rt; why, fault(Layer::Accept, 8, 0));
+            assert_eq!(rt; told(why), (Layer::Accept, 8, 0));
             assert_eq!(rt; kept, 2);
             assert_eq!(rt; one, Some(1));
             assert_eq!(rt; none, Some(0));
@@ -161,7 +157,7 @@ fn a_second_vote_in_a_ballot(rt: HostRuntime) -> Result<(), Fail> {
         Err(refused) => {
             let (why, round) = refused;
             round.abandon();
-            assert_eq!(rt; why, fault(Layer::Accept, 7, 0));
+            assert_eq!(rt; told(why), (Layer::Accept, 7, 0));
             Ok(())
         }
     }
@@ -169,8 +165,14 @@ fn a_second_vote_in_a_ballot(rt: HostRuntime) -> Result<(), Fail> {
 
 #[test]
 fn makers_refuse(rt: HostRuntime) {
-    assert_eq!(rt; Glyph::new(65535).err(), Some(fault(Layer::Value, 13, 0)));
-    assert_eq!(rt; Majority::new(8).err(), Some(fault(Layer::Rule, 14, 0)));
+    assert_eq!(rt;
+        Glyph::new(65535).err().map(told),
+        Some((Layer::Value, 13, 0))
+    );
+    assert_eq!(rt;
+        Majority::new(8).err().map(told),
+        Some((Layer::Rule, 14, 0))
+    );
 }
 
 // The value carried and the number kept, where the accept was taken.

@@ -2,7 +2,7 @@
 ghost use Rattle.std.specs.Prelude.{◌≡◌, IfOk};
 ghost use Rattle.std.specs.Option.{option_map};
 ghost use Rattle.register.specs.State.{turn};
-ghost use Rattle.register.specs.Sessions.{sitting, Opens, Runs, PrepareLine, AcceptLine, AcceptsRound, AbandonLine, DeliverLine, ReadLine, RestartLine};
+ghost use Rattle.register.specs.Sessions.{sitting, told, Opens, Runs, PrepareLine, AcceptLine, AcceptsRound, AbandonLine, DeliverLine, ReadLine, RestartLine};
 
 use super::Desk;
 use crate::bench::Bench;
@@ -10,6 +10,7 @@ use crate::held::Held;
 use crate::round::Round;
 use answers::Answer;
 use kinds::glyph::Glyph;
+use model::faults::Fault;
 use script::command::Command;
 use std::alloc::{AllocError, Global};
 
@@ -21,7 +22,7 @@ impl Desk {
         let Some(bench) = Bench::new(heap, n, cells)? else {
             return Ok(None);
         };
-        let held = Held::nothing(heap, n, cells)?;
+        let held = Held::nothing(heap, bench.size())?;
         Ok(Some(Desk {
             bench,
             held,
@@ -33,56 +34,56 @@ impl Desk {
     pub fn run(&mut self, command: Command) -> Answer
         ensures { Runs (sitting self.old) command result (sitting self.new) }
     {
+        told(self.obey(command))
+    }
+
+    // A restart of participant p. No line of a script spells it yet.
+    pub fn restart(&mut self, p: usize) -> Answer
+        ensures { RestartLine (sitting self.old) p result (sitting self.new) }
+    {
+        told(self.bench.restart(p).map(|()| Answer::Done))
+    }
+
+    // A match, since the commands are cases of an enum, each with numbers of its own.
+    fn obey(&mut self, command: Command) -> Result<Answer, Fault>
+        ensures { Runs (sitting self.old) command (told result) (sitting self.new) }
+    {
         match command {
-            Command::New { .. } => Answer::Bad,
+            Command::New { .. } => Ok(Answer::Bad),
             Command::Prepare { p, c, b } => self.prepare(p as usize, c as usize, b),
             Command::Accept { p, c, v } => self.accept(p as usize, c as usize, v),
-            Command::Abandon { p, c } => self.abandon(p as usize, c as usize),
+            Command::Abandon { p, c } => Ok(self.abandon(p as usize, c as usize)),
             Command::Deliver { q, k } => self.deliver(q as usize, k as usize),
             Command::Read { p, c } => self.read(p as usize, c as usize),
         }
     }
 
-    fn prepare(&mut self, p: usize, c: usize, b: u32) -> Answer
-        ensures { PrepareLine (sitting self.old) p c b result (sitting self.new) }
+    fn prepare(&mut self, p: usize, c: usize, b: u32) -> Result<Answer, Fault>
+        ensures { PrepareLine (sitting self.old) p c b (told result) (sitting self.new) }
     {
-        match self.bench.prepare(p, c, b) {
-            Ok((ballot, kept)) => {
-                self.held.hold(p, c, ballot);
-                Answer::Kept(kept)
-            }
-            Err(fault) => Answer::No(fault.number),
-        }
+        let (ballot, kept) = self.bench.prepare(p, c, b)?;
+        self.held.hold(p, c, Some(ballot));
+        Ok(Answer::Kept(kept))
     }
 
-    fn accept(&mut self, p: usize, c: usize, v: u32) -> Answer
-        ensures { AcceptLine (sitting self.old) p c v result (sitting self.new) }
+    fn accept(&mut self, p: usize, c: usize, v: u32) -> Result<Answer, Fault>
+        ensures { AcceptLine (sitting self.old) p c v (told result) (sitting self.new) }
     {
-        let Some(round) = self.held.round(p, c) else {
-            return Answer::No(0);
+        let Some(ballot) = self.held.ballot(p, c) else {
+            return Ok(Answer::NoRound);
         };
-        match Glyph::new(v) {
-            Ok(glyph) => self.accept_with(round, glyph),
-            Err(fault) => {
-                round.abandon();
-                Answer::No(fault.number)
-            }
-        }
+        let glyph = Glyph::new(v)?;
+        self.accept_with(Round::new(p, c, ballot), glyph)
     }
 
     // Where the accept is refused its round stays held.
-    fn accept_with(&mut self, round: Round, glyph: Glyph) -> Answer
-        ensures { AcceptsRound (sitting self.old) (turn round) glyph result (sitting self.new) }
+    fn accept_with(&mut self, round: Round, glyph: Glyph) -> Result<Answer, Fault>
+        ensures { AcceptsRound (sitting self.old) (turn round) glyph (told result) (sitting self.new) }
     {
-        let p = round.participant();
-        let c = round.cell();
-        match self.bench.accept(round, glyph) {
-            Ok(answer) => {
-                self.held.hold(p, c, -1);
-                Answer::Carried(answer.0.number(), answer.1)
-            }
-            Err(fault) => Answer::No(fault.number),
-        }
+        let (p, c) = (round.participant(), round.cell());
+        let (carried, kept) = self.bench.accept(round, glyph)?;
+        self.held.hold(p, c, None);
+        Ok(Answer::Carried(carried.number(), kept))
     }
 
     fn abandon(&mut self, p: usize, c: usize) -> Answer
@@ -91,38 +92,31 @@ impl Desk {
         if self.held.abandon(p, c) {
             Answer::Done
         } else {
-            Answer::No(0)
+            Answer::NoRound
         }
     }
 
-    fn deliver(&mut self, q: usize, k: usize) -> Answer
-        ensures { DeliverLine (sitting self.old) q k result (sitting self.new) }
+    fn deliver(&mut self, q: usize, k: usize) -> Result<Answer, Fault>
+        ensures { DeliverLine (sitting self.old) q k (told result) (sitting self.new) }
     {
-        match self.bench.deliver(q, k, &mut self.buffer) {
-            Ok(kept) => Answer::Kept(kept),
-            Err(fault) => Answer::No(fault.number),
-        }
+        let kept = self.bench.deliver(q, k, &mut self.buffer)?;
+        Ok(Answer::Kept(kept))
     }
 
-    // A restart of participant p. No line of a script spells it yet.
-    pub fn restart(&mut self, p: usize) -> Answer
-        ensures { RestartLine (sitting self.old) p result (sitting self.new) }
+    fn read(&self, p: usize, c: usize) -> Result<Answer, Fault>
+        ensures { ReadLine (sitting self.now) p c (told result) (sitting self.now) }
     {
-        match self.bench.restart(p) {
-            Ok(()) => Answer::Done,
-            Err(fault) => Answer::No(fault.number),
-        }
+        let shown = self.bench.read_out(p, c)?;
+        Ok(match shown {
+            Some((ballot, glyph)) => Answer::Chosen(ballot, glyph.number()),
+            None => Answer::Open,
+        })
     }
+}
 
-    fn read(&self, p: usize, c: usize) -> Answer
-        ensures { ReadLine (sitting self.now) p c result (sitting self.now) }
-    {
-        match self.bench.read_out(p, c) {
-            Ok(shown) => match shown {
-                Some(choice) => Answer::Chosen(choice.0, choice.1.number()),
-                None => Answer::Open,
-            },
-            Err(fault) => Answer::No(fault.number),
-        }
-    }
+// A refusal is an answer too.
+fn told(answer: Result<Answer, Fault>) -> Answer
+    ensures { result ≡ told answer }
+{
+    answer.unwrap_or_else(Answer::from)
 }

@@ -8,12 +8,10 @@ ghost use Rattle.machine.specs.Calls.{Votes, Accepts};
 ghost use Rattle.machine.specs.Refusals.{Opens, owns, vote_fault};
 
 use super::Register;
-use super::checks::{check, fault};
 use crate::round::Round;
 use frames::sort::Sort;
 use kinds::kind::Kind;
-use model::entries::Entry;
-use model::faults::{Fault, Layer};
+use model::faults::{Fault, check};
 use model::rows::Row;
 use posts::post::Post;
 use quorums::rule::QuorumRule;
@@ -33,23 +31,7 @@ impl<K: Kind, Q: QuorumRule, P: Post, S: Store> Register<K, Q, P, S> {
     ) -> Result<(K::Value, usize), (Fault, Round)>
         ensures does { Accepts (makes K.Kind.means Q.QuorumRule.means P.Post.means S.Store.means) turn (board self.old rows.old store.old post.old) round v result (board self.new rows.new store.new post.new) }
         ensures grows { ShowsNoLess rows.old rows.new }
-        ensures shown { FromRow K.Kind.means (row_of (table self.old rows.old) round.p round.c) self.old.n v result }
-    {
-        self.cast(rows, store, post, round, v)
-    }
-
-    // The laws beside what the step does.
-    fn cast(
-        &mut self,
-        rows: &mut [Row],
-        store: &mut S,
-        post: &mut P,
-        round: Round,
-        v: K::Value,
-    ) -> Result<(K::Value, usize), (Fault, Round)>
-        ensures does { Accepts (makes K.Kind.means Q.QuorumRule.means P.Post.means S.Store.means) turn (board self.old rows.old store.old post.old) round v result (board self.new rows.new store.new post.new) }
-        ensures grows { ShowsNoLess rows.old rows.new }
-        ensures shown { FromRow K.Kind.means (row_of (table self.old rows.old) round.p round.c) self.old.n v result }
+        ensures shown { FromRow K.Kind.means (row_of (table self.old rows.old) round.p round.c) self.old.size.n v result }
     {
         match self.vote(
             rows,
@@ -68,6 +50,7 @@ impl<K: Kind, Q: QuorumRule, P: Post, S: Store> Register<K, Q, P, S> {
         }
     }
 
+    // By the numbers of a round, which itself stays with `accept`.
     fn vote(
         &mut self,
         rows: &mut [Row],
@@ -82,7 +65,7 @@ impl<K: Kind, Q: QuorumRule, P: Post, S: Store> Register<K, Q, P, S> {
     {
         let place = self.check_door(rows.len(), p, c)?;
         self.check_vote(&rows[place], p, b)?;
-        let value = carried::<K>(&rows[place], self.n, v);
+        let value = carried::<K>(&rows[place], self.size.n, v);
         let next = voting(b, K::code(value));
         let kept = self.announce(rows, store, post, Sort::Accept, p, c, next)?;
         Ok((value, kept))
@@ -90,28 +73,21 @@ impl<K: Kind, Q: QuorumRule, P: Post, S: Store> Register<K, Q, P, S> {
 
     // Refusals 6, 7 and 8.
     fn check_vote(&self, row: &Row, p: usize, b: i32) -> Result<(), Fault>
-        requires { p < self.now.n }
-        ensures { Opens (vote_fault Q.QuorumRule.means self.now.rule self.now.n row.now.entries p b) (λ _. owns self.now.n p b ≡ true) result }
+        requires { p < self.now.size.n }
+        ensures { Opens (vote_fault Q.QuorumRule.means self.now.rule self.now.size.n row.now.entries p b) (λ _. owns self.now.size.n p b ≡ true) result }
     {
         let own = row.entries[p].clean();
-        check(self.owns(p, b), fault(Layer::Accept, 6))?;
-        check(has_promised(&own, b), fault(Layer::Accept, 6))?;
-        check(!has_voted(&own, b), fault(Layer::Accept, 7))?;
-        let promising = promisers(row, self.n, b);
-        check(self.rule.promises(promising), fault(Layer::Accept, 8))
+        check(self.owns(p, b), Fault::NotPromised)?;
+        check(same_ballot(own.promise, b), Fault::NotPromised)?;
+        check(!same_ballot(own.vote, b), Fault::VotedAlready)?;
+        let promising = promisers(row, self.size.n, b);
+        check(self.rule.promises(promising), Fault::TooFew)
     }
 }
 
-// Whether the entry's promise is that ballot.
-fn has_promised(own: &Entry, b: i32) -> bool
-    ensures { result ≡ same_ballot own.now.promise b }
+// (A function for `==`: the proofs of the two tests did not close over the operator.)
+fn same_ballot(a: i32, b: i32) -> bool
+    ensures { result ≡ same_ballot a b }
 {
-    own.promise == b
-}
-
-// Whether the entry's vote is that ballot.
-fn has_voted(own: &Entry, b: i32) -> bool
-    ensures { result ≡ same_ballot own.now.vote b }
-{
-    own.vote == b
+    a == b
 }

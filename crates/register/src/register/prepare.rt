@@ -10,12 +10,11 @@ ghost use Rattle.machine.specs.Calls.{Prepares};
 ghost use Rattle.machine.specs.Refusals.{Opens, promise_fault};
 
 use super::Register;
-use super::checks::{check, fault};
 use crate::round::Round;
 use frames::sort::Sort;
 use kinds::kind::Kind;
 use model::entries::Entry;
-use model::faults::{Fault, Layer};
+use model::faults::{Fault, check};
 use model::rows::Row;
 use posts::post::Post;
 use quorums::rule::QuorumRule;
@@ -24,6 +23,7 @@ use stores::store::Store;
 
 impl<K: Kind, Q: QuorumRule, P: Post, S: Store> Register<K, Q, P, S> {
     // Participant p promises ballot b in cell c, saves that, and asks the others. Answers a round and for how many the frame was kept.
+    #[tactic(auto, using(crate::proofs::Laws::at_most_itself))]
     pub fn prepare(
         &mut self,
         rows: &mut [Row],
@@ -36,36 +36,6 @@ impl<K: Kind, Q: QuorumRule, P: Post, S: Store> Register<K, Q, P, S> {
         ensures does { Prepares (makes K.Kind.means Q.QuorumRule.means P.Post.means S.Store.means) turn (board self.old rows.old store.old post.old) p c b result (board self.new rows.new store.new post.new) }
         ensures grows { ShowsNoLess rows.old rows.new }
     {
-        self.ask(rows, store, post, p, c, b)
-    }
-
-    // The law beside what the step does.
-    fn ask(
-        &mut self,
-        rows: &mut [Row],
-        store: &mut S,
-        post: &mut P,
-        p: usize,
-        c: usize,
-        b: i32,
-    ) -> Result<(Round, usize), Fault>
-        ensures does { Prepares (makes K.Kind.means Q.QuorumRule.means P.Post.means S.Store.means) turn (board self.old rows.old store.old post.old) p c b result (board self.new rows.new store.new post.new) }
-        ensures grows { ShowsNoLess rows.old rows.new }
-    {
-        self.promise(rows, store, post, p, c, b)
-    }
-
-    fn promise(
-        &mut self,
-        rows: &mut [Row],
-        store: &mut S,
-        post: &mut P,
-        p: usize,
-        c: usize,
-        b: i32,
-    ) -> Result<(Round, usize), Fault>
-        ensures { Prepares (makes K.Kind.means Q.QuorumRule.means P.Post.means S.Store.means) turn (board self.old rows.old store.old post.old) p c b result (board self.new rows.new store.new post.new) }
-    {
         let place = self.check_door(rows.len(), p, c)?;
         let next = self.check_promise(&rows[place], p, b)?;
         let kept = self.announce(rows, store, post, Sort::Prepare, p, c, next)?;
@@ -74,12 +44,12 @@ impl<K: Kind, Q: QuorumRule, P: Post, S: Store> Register<K, Q, P, S> {
 
     // Refusals 4 and 5; else participant p's entry with its new promise.
     fn check_promise(&self, row: &Row, p: usize, b: i32) -> Result<Entry, Fault>
-        requires { p < self.now.n }
-        ensures { Opens (promise_fault self.now.n row.now.entries p b) (λ e. (e ≡ promising (entry_at row.now.entries p) b) × (is_entry e ≡ true)) result }
+        requires { p < self.now.size.n }
+        ensures { Opens (promise_fault self.now.size.n row.now.entries p b) (λ e. (e ≡ promising (entry_at row.now.entries p) b) × (is_entry e ≡ true)) result }
     {
         let own = row.entries[p].clean();
-        check(self.owns(p, b), fault(Layer::Prepare, 4))?;
-        check(own.promise < b, fault(Layer::Prepare, 5))?;
+        check(self.owns(p, b), Fault::NotItsBallot)?;
+        check(own.promise < b, Fault::PromisedAlready)?;
         Ok(promising(own, b))
     }
 }

@@ -23,6 +23,6 @@ impl<K: Kind, Q: QuorumRule, P: Post, S: Store> Register<K, Q, P, S> {
         ensures { ReadsOut (makes K.Kind.means Q.QuorumRule.means P.Post.means S.Store.means) (table self.now rows.now) p c result }
     {
         let place = self.check_door(rows.len(), p, c)?;
-        Ok(shown::<K, Q>(&rows[place], self.n, &self.rule))
+        Ok(shown::<K, Q>(&rows[place], self.size.n, &self.rule))
     }
 }

@@ -1,12 +1,9 @@
 // Receive: taking over what another participant knows.
-ghost use Rattle.std.specs.Prelude.{◌≡◌, ◌*◌, ◌<◌, ◌≤◌, true, length, ◌≢◌};
-ghost use Rattle.frames.specs.Layout.{heading_of};
-ghost use Rattle.frames.specs.Reading.{ForUs};
+ghost use Rattle.std.specs.Prelude.{◌≡◌, ℕ, ◌*◌, ◌<◌, ◌≤◌, true, List, length, ◌≢◌};
+ghost use Rattle.frames.specs.Reading.{Spells};
 ghost use Rattle.frames.specs.Sorts.{well_addressed};
 ghost use Rattle.frames.specs.declared.sort.Sort.TheVariants.{Ack};
-ghost use Rattle.model.specs.Entries.{is_entry};
 ghost use Rattle.model.specs.Sets.{single as mask_of_one};
-ghost use Rattle.std.specs.List.{AllByRecursion};
 ghost use Rattle.machine.specs.Board.{makes};
 ghost use Rattle.machine.specs.Showing.{ShowsNoLess};
 ghost use Rattle.register.specs.State.{board};
@@ -27,6 +24,7 @@ use stores::store::Store;
 
 impl<K: Kind, Q: QuorumRule, P: Post, S: Store> Register<K, Q, P, S> {
     // Participant q reads a frame, of any bytes, and takes over what the sender knows. Where the sender is behind, q answers it. Says for how many that answer was kept.
+    #[tactic(auto, using(crate::proofs::Laws::at_most_itself))]
     pub fn receive(
         &mut self,
         rows: &mut [Row],
@@ -38,36 +36,8 @@ impl<K: Kind, Q: QuorumRule, P: Post, S: Store> Register<K, Q, P, S> {
         ensures does { Receives (makes K.Kind.means Q.QuorumRule.means P.Post.means S.Store.means) (board self.old rows.old store.old post.old) q frame.now result (board self.new rows.new store.new post.new) }
         ensures grows { ShowsNoLess rows.old rows.new }
     {
-        self.hear(rows, store, post, q, frame)
-    }
-
-    // The law beside what the step does.
-    fn hear(
-        &mut self,
-        rows: &mut [Row],
-        store: &mut S,
-        post: &mut P,
-        q: usize,
-        frame: &[u8],
-    ) -> Result<usize, Fault>
-        ensures does { Receives (makes K.Kind.means Q.QuorumRule.means P.Post.means S.Store.means) (board self.old rows.old store.old post.old) q frame.now result (board self.new rows.new store.new post.new) }
-        ensures grows { ShowsNoLess rows.old rows.new }
-    {
-        self.take_in(rows, store, post, q, frame)
-    }
-
-    pub(super) fn take_in(
-        &mut self,
-        rows: &mut [Row],
-        store: &mut S,
-        post: &mut P,
-        q: usize,
-        frame: &[u8],
-    ) -> Result<usize, Fault>
-        ensures { Receives (makes K.Kind.means Q.QuorumRule.means P.Post.means S.Store.means) (board self.old rows.old store.old post.old) q frame.now result (board self.new rows.new store.new post.new) }
-    {
         self.check_participant(rows.len(), q)?;
-        let frame = read::<K>(frame, self.n, self.cells, q)?;
+        let frame = read::<K>(frame, self.size.n, self.size.cells, q)?;
         self.take_over(rows, store, post, q, &frame)
     }
 
@@ -79,12 +49,12 @@ impl<K: Kind, Q: QuorumRule, P: Post, S: Store> Register<K, Q, P, S> {
         q: usize,
         frame: &Frame,
     ) -> Result<usize, Fault>
-        requires { (q < self.old.n) × ((length rows.old ≡ self.old.n * self.old.cells) × ((ForUs K.Kind.means (heading_of frame.now.header) self.old.n self.old.cells q) × (AllByRecursion (λ e. is_entry e ≡ true) frame.now.row.entries))) }
+        requires { (q < self.old.size.n) × ((length rows.old ≡ self.old.size.n * self.old.size.cells) × ((bytes : List ℕ) × Spells K.Kind.means bytes self.old.size.n self.old.size.cells q frame.now)) }
         ensures { TakesOver (makes K.Kind.means Q.QuorumRule.means P.Post.means S.Store.means) (board self.old rows.old store.old post.old) q frame.now result (board self.new rows.new store.new post.new) }
     {
         let sender = frame.header.sender;
         let c = frame.header.cell;
-        let place = self.place_of(rows.len(), q, c);
+        let place = self.size.place(q, c);
         let s = frame.row.entries[sender];
         let own = rows[place].entries[q].clean();
         let next = adopted(own, s);
@@ -96,7 +66,8 @@ impl<K: Kind, Q: QuorumRule, P: Post, S: Store> Register<K, Q, P, S> {
         Ok(self.acknowledge(post, &rows[place], owed, q, c, sender))
     }
 
-    // Puts participant q's row to the sender if an ack is owed. Says for how many it was kept.
+    // Puts participant q's row to the sender if an ack is owed. Says for how many it was kept. (Owed is a flag, as in the relation of the step: it stands beside no value that is there only with it.)
+    #[tactic(auto, using(frames::proofs::Addresses::ack_addressed))]
     fn acknowledge(
         &self,
         post: &mut P,
@@ -106,21 +77,12 @@ impl<K: Kind, Q: QuorumRule, P: Post, S: Store> Register<K, Q, P, S> {
         c: usize,
         sender: usize,
     ) -> usize
-        requires { (q < self.now.n) × ((c < self.now.cells) × ((sender < self.now.n) × ((sender ≢ q)))) }
-        ensures { AcksRow (makes K.Kind.means Q.QuorumRule.means P.Post.means S.Store.means) owed self.now.n row.now.entries post.old q c sender result post.new }
+        requires { (q < self.now.size.n) × ((c < self.now.size.cells) × ((sender < self.now.size.n) × ((sender ≢ q)))) }
+        ensures { AcksRow (makes K.Kind.means Q.QuorumRule.means P.Post.means S.Store.means) owed self.now.size.n row.now.entries post.old q c sender result post.new }
     {
         if !owed {
             return 0;
         }
-        self.put_row(post, row, Sort::Ack, q, c, answer_to(self.n, q, sender))
+        self.put_row(post, row, Sort::Ack, q, c, single(sender))
     }
-}
-
-// The sender alone, as the addressees of an ack.
-fn answer_to(n: usize, q: usize, sender: usize) -> u8
-    requires { (n ≤ 7) × ((q < n) × ((sender < n) × ((sender ≢ q)))) }
-    ensures value { result ≡ mask_of_one sender }
-    ensures addressed { well_addressed Ack n q result ≡ true }
-{
-    single(sender)
 }

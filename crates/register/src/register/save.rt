@@ -15,7 +15,7 @@ use frames::sort::Sort;
 use frames::writer::write;
 use kinds::kind::Kind;
 use model::entries::Entry;
-use model::faults::{Fault, Layer};
+use model::faults::Fault;
 use model::rows::Row;
 use model::sets::{all_but, with};
 use posts::post::Post;
@@ -30,7 +30,7 @@ pub(super) fn renew(row: &mut Row, i: usize, e: Entry)
     row.entries[i] = e;
 }
 
-// Saves participant p's entry. Where that fails p is down.
+// Saves participant p's entry. Where that fails p is down. (An entry as a step makes it, and no type for one that counts, which would be opened again for row, store and frame. Not by map_err: what its closure writes to down gets no proof.)
 pub(super) fn keep<S: Store>(
     store: &mut S,
     down: &mut u8,
@@ -41,17 +41,11 @@ pub(super) fn keep<S: Store>(
     requires { is_entry e ≡ true }
     ensures { Keeps S.Store.means store.old down.old p place e result store.new down.new }
 {
-    match store.save(place, e) {
-        Ok(()) => Ok(()),
-        Err(failed) => {
-            *down = with(*down, p);
-            Err(Fault {
-                layer: Layer::Store,
-                number: 12,
-                place: failed.place,
-            })
-        }
-    }
+    let Err(failed) = store.save(place, e) else {
+        return Ok(());
+    };
+    *down = with(*down, p);
+    Err(Fault::from(failed))
 }
 
 // Saves participant p's entry where it is another than before.
@@ -83,14 +77,14 @@ impl<K: Kind, Q: QuorumRule, P: Post, S: Store> Register<K, Q, P, S> {
         c: usize,
         to: u8,
     ) -> usize
-        requires { (p < self.now.n) × ((c < self.now.cells) × (well_addressed sort self.now.n p to ≡ true)) }
-        ensures { Puts P.Post.means post.old (sent K.Kind.means self.now.n sort p c to row.now.entries) (member to) result post.new }
+        requires { (p < self.now.size.n) × ((c < self.now.size.cells) × (well_addressed sort self.now.size.n p to ≡ true)) }
+        ensures { Puts P.Post.means post.old (sent K.Kind.means self.now.size.n sort p c to row.now.entries) (member to) result post.new }
     {
         let header = Header {
             sort,
-            n: self.n,
+            n: self.size.n,
             sender: p,
-            kind: K::kind_number(),
+            kind: K::NUMBER,
             to,
             cell: c,
         };
@@ -110,12 +104,12 @@ impl<K: Kind, Q: QuorumRule, P: Post, S: Store> Register<K, Q, P, S> {
         c: usize,
         e: Entry,
     ) -> Result<usize, Fault>
-        requires { (p < self.old.n) × ((c < self.old.cells) × ((length rows.old ≡ self.old.n * self.old.cells) × ((is_entry e ≡ true) × (well_addressed sort self.old.n p (all_but self.old.n p) ≡ true)))) }
+        requires { (p < self.old.size.n) × ((c < self.old.size.cells) × ((length rows.old ≡ self.old.size.n * self.old.size.cells) × ((is_entry e ≡ true) × (well_addressed sort self.old.size.n p (all_but self.old.size.n p) ≡ true)))) }
         ensures { Announces (makes K.Kind.means Q.QuorumRule.means P.Post.means S.Store.means) (board self.old rows.old store.old post.old) sort p c e result (board self.new rows.new store.new post.new) }
     {
-        let place = self.place_of(rows.len(), p, c);
+        let place = self.size.place(p, c);
         keep(store, &mut self.down, p, place, e)?;
         renew(&mut rows[place], p, e);
-        Ok(self.put_row(post, &rows[place], sort, p, c, all_but(self.n, p)))
+        Ok(self.put_row(post, &rows[place], sort, p, c, all_but(self.size.n, p)))
     }
 }

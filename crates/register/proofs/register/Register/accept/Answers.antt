@@ -4,7 +4,7 @@ use Rattle.machine.specs.Board.{makes}
 use Rattle.register.specs.State.{board, turn}
 use Rattle.machine.proofs.Growing.{accepts_grow, from_row}
 use Rattle.machine.proofs.Steps.{at_turn}
-use Rattle.register.proofs.register.Register.cast.Goals as goal
+use Rattle.register.proofs.register.Register.accept.Goals as goal
 
 pub returns-in-Ok : goal.returns-in-Ok
 returns-in-Ok g c =
