@@ -11,12 +11,12 @@ use script::lines::Lines;
 use std::alloc::Global;
 use std::io::{BufWriter, Read, Stdout, Write};
 
-// Runs a session. Reads the input in blocks, so that a long script costs few system calls and no memory.
+// Runs a session. Reads the input in blocks, so that a long script costs few system calls and no memory. (The loop counts, since one without an end would have to be allowed to wait.)
 pub fn run(rt: &HostRuntime) -> anyhow::Result<()> {
     let heap = rt.alloc();
     let mut input = rt.stdin();
     let mut out = BufWriter::new(heap, rt.stdout())?;
-    let mut session = Session::Waiting;
+    let mut session = Session::new();
     let mut lines = Lines::new();
     let mut block = [0u8; 65536];
     for _ in 0..u64::MAX {
@@ -43,10 +43,10 @@ fn take_block<W: Write>(
 ) -> anyhow::Result<()>
     ensures { OnOk result (collected lines.new ≡ left (collected lines.old) block.now) }
 {
-    let mut from = 0;
-    while let Some(next) = lines.take_from(block, from) {
+    let mut rest = block;
+    while let Some(next) = lines.take(rest) {
         answer_line(heap, session, lines, out)?;
-        from = next;
+        rest = next;
     }
     Ok(())
 }

@@ -1,10 +1,10 @@
-use Rattle.std.proofs.Common.{◌≡◌, ◌-◌, length, drop}
+use Rattle.std.proofs.Common.{◌≡◌, length}
 use Rattle.console.proofs.take_block.Given as goal
 use Rattle.console.specs.Left.{left}
 use Rattle.script.specs.Collected.{collected}
 
 abbrev pub invariant-loop-next : goal.invariant-loop-next
-invariant-loop-next g l = left (collected l.lines) (drop l.from l.block) ≡ left (collected l.initial.lines) l.block
+invariant-loop-next g l = left (collected l.lines) l.rest ≡ left (collected l.initial.lines) l.block
 
 abbrev pub decreases-loop-next : goal.decreases-loop-next
-decreases-loop-next g l = length l.block - l.from
+decreases-loop-next g l = length l.rest
