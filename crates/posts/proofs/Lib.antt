@@ -1,4 +1,5 @@
 pub mod Finding
+pub mod Layers
 pub mod Members
 pub mod Midway
 pub mod Parcels

@@ -7,7 +7,7 @@ ghost use Rattle.std.proofs.Common.{rules};
 
 use crate::post::{LONGEST, Post};
 
-// Offers a frame below without those that it is shut to. In all else it is the post below.
+// Offers a frame below without those that it is shut to. In all else it is the post below. (A type beside the quota, since the clauses of both name what each holds.)
 #[derive(Drop)]
 pub struct Barrier<P> {
     below: P,

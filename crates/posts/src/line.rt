@@ -59,6 +59,7 @@ impl Post for Line {
         ensures puts { Puts line_means self.old frame.now (member to) result self.new }
         ensures queues { Queues self.old frame.now (member to) self.new }
     {
+        // No map_or: what its closure writes to the line is not known behind it.
         match Sendable::of(frame) {
             Some(frame) => self.fill(frame, to),
             None => 0,

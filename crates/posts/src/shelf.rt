@@ -13,6 +13,7 @@ use model::sets::{count, has};
 use std::alloc::{AllocError, Global};
 
 // Has 64 places. Where they are full the oldest item is given up for a new one. Taking an item leaves it in its place.
+// (A type beside the line: one generic over both, with its `new`, `fill` and `put`, needs a trait with two relations of a put midway and their laws, for a loop of three lines.)
 #[derive(Drop)]
 pub struct Shelf {
     tray: Tray,
@@ -48,7 +49,6 @@ impl Shelf {
     }
 
     // Goes through the addressees, ascending, and says how many there are.
-    // One function for this and the line's is no plainer: it needs a trait with both relations of a put midway and their laws.
     fn fill(&mut self, frame: Sendable, to: u8) -> usize
         ensures puts { Puts shelf_means self.old frame.entry.bytes.now (member to) result self.new }
         ensures replaces { Replaces self.old frame.entry.bytes.now (member to) self.new }
@@ -70,6 +70,7 @@ impl Post for Shelf {
         ensures puts { Puts shelf_means self.old frame.now (member to) result self.new }
         ensures replaces { Replaces self.old frame.now (member to) self.new }
     {
+        // No map_or: what its closure writes to the shelf is not known behind it.
         match Sendable::of(frame) {
             Some(frame) => self.fill(frame, to),
             None => 0,
