@@ -43,7 +43,7 @@ fn share(set: u8, i: usize, w: u8) -> u32
 }
 
 // The weight of those of the first n participants that are in the set.
-// (By numbers and no slice: of a sum over the first n weights with their places the check did not find that it is this one.)
+// (By the numbers below n: over the slice of the first n weights the sum is no shorter, and the proofs of two that use it stayed open.)
 fn weigh(weights: &[u8; 7], n: usize, set: u8) -> u32
     requires { n ≤ 7 }
     ensures { result ≡ weight_of (weight weights.now) n (member set) }
