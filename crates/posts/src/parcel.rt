@@ -1,6 +1,6 @@
 // One frame on its way, as a post holds it.
-ghost use Rattle.std.specs.Prelude.{◌≡◌, ◌++◌, length, drop};
-ghost use Rattle.posts.specs.Meaning.{addressed, is_for};
+ghost use Rattle.std.specs.Prelude.{◌≡◌, true, ◌++◌, length, drop};
+ghost use Rattle.posts.specs.Meaning.{addressed, is_for, sendable};
 
 use crate::post::LONGEST;
 use crate::sendable::Sendable;
@@ -19,14 +19,11 @@ impl Model for Parcel {
 
     ghost Value = { Item };
 
-    ghost use Rattle.posts.specs.Parcels.{meant};
+    ghost use Rattle.posts.specs.Parcels.{meant, Carriable};
 
     ghost view = { meant };
 
-    ghost use Rattle.std.specs.Prelude.{◌≡◌, true};
-    ghost use Rattle.posts.specs.Meaning.{sendable};
-
-    ghost invariant = { λ parcel. sendable parcel.frame.items ≡ true };
+    ghost invariant = { Carriable };
 }
 
 impl Parcel {
@@ -34,10 +31,9 @@ impl Parcel {
     pub(crate) fn new(to: usize, frame: Sendable) -> Parcel
         ensures { result ≡ addressed frame.entry.bytes.now to }
     {
-        Parcel {
-            to,
-            frame: ArrayVec::try_from(frame.bytes).unwrap(),
-        }
+        let mut bytes = ArrayVec::new();
+        bytes.try_extend_from_slice(frame.bytes).unwrap();
+        Parcel { to, frame: bytes }
     }
 
     // Whether the frame is for q.
@@ -51,6 +47,7 @@ impl Parcel {
     pub(crate) fn open(&self, out: &mut [u8; LONGEST]) -> usize
         ensures long { result ≡ length self.now.frame }
         ensures opens { out.new ≡ self.now.frame ++ drop result out.old }
+        ensures carriable { sendable self.now.frame ≡ true }
     {
         let frame = self.frame.as_slice();
         out[..frame.len()].copy_from_slice(frame);

@@ -67,8 +67,8 @@ impl Tray {
     {
         self.parcels
             .iter()
-            .filter(|parcel| parcel.is_for(q))
-            .count()
+            .map(|parcel| usize::from(parcel.is_for(q)))
+            .sum()
     }
 
     // Where the k-th item for q stands, counted from 0.
