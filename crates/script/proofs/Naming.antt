@@ -9,14 +9,14 @@ use Rattle.script.specs.declared.command.Command.TheVariants.{New, Prepare, Acce
 use Rattle.script.specs.Numerals.{numeral}
 use Rattle.script.specs.Commands.{name, numbers, Spells, ReadsAs, both, numerals, taking, named, called, command_of}
 
--- each command is found under its name
-by_name : (c : Command) → named (name c) (taking (numbers c)) ≡ Some c
-by_name (New n cells) = refl
-by_name (Prepare p c b) = refl
-by_name (Accept p c v) = refl
-by_name (Abandon p c) = refl
-by_name (Deliver q k) = refl
-by_name (Read p c) = refl
+-- each command is found under its name, which is no number
+by_name : (c : Command) → (named (name c) (taking (numbers c)) ≡ Some c) × (numeral (name c) ≡ None)
+by_name (New n cells) = (refl, refl)
+by_name (Prepare p c b) = (refl, refl)
+by_name (Accept p c v) = (refl, refl)
+by_name (Abandon p c) = (refl, refl)
+by_name (Deliver q k) = (refl, refl)
+by_name (Read p c) = (refl, refl)
 
 -- the command found among cs has that name, and what each of them has
 record Found (w : List ℕ) (P : Command → Type 0) (c : Command) : Type 0 where
@@ -72,8 +72,17 @@ spelled (w ∷ ws) c h = let b = read_back w ws c h in (ws, ap (λ v. v ∷ ws) 
 
 -- a command that is spelled is read
 spelled_reads : (ps : List (List ℕ)) (c : Command) → Spells ps c → command_of ps ≡ Some c
-spelled_reads ps c s = rw (s.1, numerals_from s.0 (numbers c) s.2) (by_name c)
+spelled_reads ps c s = rw (s.1, numerals_from s.0 (numbers c) s.2) (by_name c).0
 
 pub command_law : (ps : List (List ℕ)) (r : Option Command) → r ≡ command_of ps → ReadsAs ps r
 command_law ps None e = λ c s. let q = spelled_reads ps c s in cc
 command_law ps (Some c) e = (spelled ps c (sym e), λ d s. let q = spelled_reads ps d s in cc)
+
+-- a first word that is a number is no name
+none_from_not : (o : Option Command) → ((c : Command) → o ≡ Some c → ⊥) → None ≡ o
+none_from_not None h = refl
+none_from_not (Some c) h = absurd (h c refl)
+
+pub number_first : (ps : List (List ℕ)) {w : List ℕ} {ws : List (List ℕ)} (n : ℕ) → ps ≡ w ∷ ws → Some n ≡ numeral w → None ≡ command_of ps
+number_first ps {w} {ws} n cut h =
+    rw cut (none_from_not _ (λ c e. let z : Some n ≡ None = h ∙ ap numeral (read_back w ws c e).0 ∙ (by_name c).1 in cc))

@@ -1,7 +1,5 @@
 // Lines, collected from the blocks of an input as they come.
-ghost use Rattle.script.specs.Collected.{kept, added, collected, begun, part, GoesOn};
-ghost use Rattle.script.specs.Pieces.{front, newline, Splits};
-ghost use Rattle.std.specs.Option.{option_map};
+ghost use Rattle.std.specs.Option.{option_map, unwrap_or};
 ghost use Rattle.std.specs.Prelude.{◌≡◌, ℕ, ◌≤◌, List, [], ◌++◌, length, IfSome, Some};
 
 use crate::marks::split_first;
@@ -14,9 +12,13 @@ pub const LONGEST: usize = 80;
 #[derive(Drop)]
 pub struct Lines {
     line: Option<ArrayVec<u8, LONGEST>>,
+    ghost few: { length (unwrap_or (option_map (λ l. l.items) line) []) ≤ 80 },
 }
 
 impl Lines {
+    ghost use Rattle.script.specs.Collected.{kept, added, collected, begun, part, GoesOn};
+    ghost use Rattle.script.specs.Pieces.{front, newline, Splits};
+
     // Nothing collected yet.
     pub fn new() -> Lines
         ensures { collected result ≡ Some [] }
