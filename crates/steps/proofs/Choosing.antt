@@ -25,6 +25,11 @@ peopled rule laws q s e = let one = some_member rule laws q s e in (one.0, one.2
 pub asked : (chooses : (ℕ → Bool) → Bool) (s t : ℕ → Bool) (answer x : Bool) → ((j : ℕ) → s j ≡ t j) → answer ≡ chooses s → answer ≡ x → chooses t ≡ x
 asked chooses s t answer x same says is = let sets : s ≡ t = λ k j. same j k in ap chooses (sym sets) ∙ sym says ∙ is
 
+-- what a kind says of the code of entry i is the value there
+pub valued : {V : Type 0} (m : KindMeaning V) (entries : List Entry) (i : ℕ) (e : Entry) (answer x : Option V)
+    → e ≡ entry_at entries i → answer ≡ m.value e.code → answer ≡ x → value_at m entries i ≡ x
+valued m entries i e answer x same says is = ap (λ e'. m.value e'.code) (sym same) ∙ sym says ∙ is
+
 -- the ballot of a choice, or none
 abbrev pub top : {V : Type 0} → Option (ℤ × V) → ℤ
 top None = negsuc 0
@@ -80,11 +85,11 @@ module _ {V : Type 0} (m : KindMeaning V) (chooses : (ℕ → Bool) → Bool) (e
 
   module _ (i : ℕ) (r new : Option (ℤ × V)) (s : Sofar i r) (e : Entry) (v : V) (vote above : ℤ) (is : e ≡ entry_at entries i) (votes : vote ≡ e.vote) (tops : above ≡ top r)
       (value : m.value e.code ≡ Some v) where
-    valued : value_at m entries i ≡ Some v
-    valued = ap (λ e'. m.value e'.code) (sym is) ∙ value
+    valued_here : value_at m entries i ≡ Some v
+    valued_here = valued m entries i e (Some v) (Some v) is (sym value) refl
 
     counts : vote ≡ vote_at m entries i
-    counts = votes ∙ ap (λ e'. e'.vote) is ∙ sym (ap (λ o. cond (is_some o) (entry_at entries i).vote (negsuc 0)) valued)
+    counts = votes ∙ ap (λ e'. e'.vote) is ∙ sym (ap (λ o. cond (is_some o) (entry_at entries i).vote (negsuc 0)) valued_here)
 
     -- nor does one that is not higher, or whose voters do not choose
     pub sofar_keeps : new ≡ r → (lt_z above vote ≡ true → chooses (voted m entries n vote) ≡ false) → Sofar (i + 1) new
@@ -111,6 +116,6 @@ module _ {V : Type 0} (m : KindMeaning V) (chooses : (ℕ → Bool) → Bool) (e
           within = within;
           votes = sym same;
           first = λ j h equal. both_ways _ (ap (λ b. chooses (voted m entries n b)) (sym equal) ∙ passed j h (omega (arith, ints))) chosen;
-          value = valued;
+          value = valued_here;
         } in
         rw taken (omega (arith, ints), choice, below_more _ _ (λ j h up. passed j h (omega (arith, ints))) (λ up. absurd (omega (arith, ints))))
