@@ -73,7 +73,8 @@ impl Lines {
 
     // Whether any byte was collected since the last clear, so that a last line without an end is left.
     pub fn pending(&self) -> bool
-        ensures { result ≡ begun (collected self.now) }
+        ensures value { result ≡ begun (collected self.now) }
+        ensures short { IfSome (collected self.now) (λ line. length line ≤ 80) }
     {
         self.line.as_ref().is_none_or(|line| !line.is_empty())
     }
