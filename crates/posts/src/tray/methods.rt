@@ -75,11 +75,9 @@ impl Tray {
     pub(crate) fn find(&self, q: usize, k: usize) -> Option<usize>
         ensures { Finds (tray_items self.now) q k result }
     {
+        let mut earlier = 0..k;
         self.parcels
             .iter()
-            .enumerate()
-            .filter(|(_, parcel)| parcel.is_for(q))
-            .map(|(i, _)| i)
-            .nth(k)
+            .position(|parcel| parcel.is_for(q) && earlier.next().is_none())
     }
 }
