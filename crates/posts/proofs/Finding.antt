@@ -14,42 +14,51 @@ module _ {A : Type 0} (q : ℕ) where
   abbrev Ended : List Item → ℕ → ℕ → Option A → Type 0
   Ended all k n o = MatchOption o (waiting q all ≤ k) (λ _. Place all q k n)
 
-  -- the first is passed over
+  -- with one more item in front, which was passed over
   past : (x : Item) (xs : List Item) (k j n : ℕ) (o : Option A) → k ≡ cond (is_for q x) 1 0 + j → Ended xs j n o → Ended (x ∷ xs) k (suc n) o
-  past x xs k j n None is e = omega (arith, sum_by-cons (λ y. cond (is_for q y) 1 0) x xs)
-  past x xs k j n (Some y) is e = record {
-    within = omega (arith, e.within);
-    addressee = e.addressee;
-    earlier = omega (arith, e.earlier, sum_by-cons (λ y. cond (is_for q y) 1 0) x (take n xs));
-  }
+  past x xs k j n o is e = at o e
+    where
+      more : (ys : List Item) → waiting q (x ∷ ys) ≡ cond (is_for q x) 1 0 + waiting q ys
+      more ys = sum_by-cons (λ y. cond (is_for q y) 1 0) x ys
 
-  told : (all : List Item) (k n : ℕ) (o : Option A) (r : Option ℕ) (W : A → Type 0) → MatchOption o (r ≡ None) (λ x. (r ≡ Some n) × W x) → Ended all k n o → Finds all q k r
-  told all k n None r W is e = subst (Finds all q k) (sym is) e
-  told all k n (Some x) r W is e = subst (Finds all q k) (sym is.0) e
+      at : (o : Option A) → Ended xs j n o → Ended (x ∷ xs) k (suc n) o
+      at None e = omega (arith, more xs)
+      at (Some y) e = record { within = omega (arith, e.within); addressee = e.addressee; earlier = omega (arith, e.earlier, more (take n xs)) }
 
--- At each item the search passes over it or ends there, and `Left p k` says that in the state p there are k for q to pass over.
-module _ {S A F : Type 0} (steps : S → Option A → S → Type 0) (v : A → Item) (passes ends : F → A → F → Type 0) (q : ℕ) (Left : F → ℕ → Type 0)
-    (counts : (p : F) (k : ℕ) (x : A) (h : F) → Left p k → passes p x h → (j : ℕ) × Left h j × (k ≡ cond (is_for q (v x)) 1 0 + j))
-    (stops : (p : F) (k : ℕ) (x : A) (h : F) → Left p k → ends p x h → (is_for q (v x) ≡ true) × (k ≡ 0)) where
-  abbrev Last : Type 0 → Type 0 → F → Option A → Type 0
-  Last N W h o = MatchOption o N (λ x. W × ((j : F) × ends h x j))
+  -- so the place that the search answers is the one looked for
+  answered : (all : List Item) (k n : ℕ) (o : Option A) (r : Option ℕ) (W : A → Type 0) → MatchOption o (r ≡ None) (λ x. (r ≡ Some n) × W x) → Ended all k n o → Finds all q k r
+  answered all k n None r W is e = subst (Finds all q k) (sym is) e
+  answered all k n (Some x) r W is e = subst (Finds all q k) (sym is.0) e
 
-  ended : (N W : Type 0) (xs : List A) (all : List Item) (s t u : S) (p h : F) (k : ℕ) (o : Option A) → AlwaysYields steps v s all → Yields steps s xs t → steps t o u
-      → Left p k → FoldsTo passes p xs h → Last N W h o → Ended q all k (length xs) o
-  ended N W [] [] s t u p h k None e y n l c m = omega arith
-  ended N W [] [] s t u p h k (Some x) e y n l c m = absurd (e x u (subst (λ w. steps w (Some x) u) (sym y) n))
-  ended N W [] (z ∷ all) s t u p h k None e y n l c m = absurd (e.0 u (subst (λ w. steps w None u) (sym y) n))
-  ended N W [] (z ∷ all) s t u p h k (Some x) e y n l c m =
-      let is = (e.1 x u (subst (λ w. steps w (Some x) u) (sym y) n)).0 in
-      let last = stops h k x m.1.0 (subst (λ w. Left w k) c l) m.1.1 in
-      record { within = omega arith; addressee = eqb-true z.to q (ap (is_for q) (sym is) ∙ last.0); earlier = sym last.1 }
-  ended N W (x ∷ xs) [] s t u p h k o e y n l c m = absurd (e x y.0 y.1)
-  ended N W (x ∷ xs) (z ∷ all) s t u p h k o e y n l c m =
-      let next = e.1 x y.0 y.1 in
-      let less = counts p k x c.0 l c.1 in
-      past q z all k less.0 (length xs) o (less.2 ∙ ap (λ w. cond (is_for q w) 1 0 + less.0) next.0) (ended N W xs all y.0 t u c.0 h less.0 o next.1 y.2 n less.1 c.2 m)
+-- At each item the search passes over it or stops there. `Left p k` says that in the state p there are k for q to pass over.
+module _ {S A F : Type 0} (steps : S → Option A → S → Type 0) (v : A → Item) (passes stops : F → A → F → Type 0) (q : ℕ) (Left : F → ℕ → Type 0)
+    (passed : (p : F) (k : ℕ) (x : A) (h : F) → Left p k → passes p x h → (j : ℕ) × Left h j × (k ≡ cond (is_for q (v x)) 1 0 + j))
+    (stopped : (p : F) (k : ℕ) (x : A) (h : F) → Left p k → stops p x h → (is_for q (v x) ≡ true) × (k ≡ 0)) where
+  -- the search ended, with r for its answer, behind n items
+  module _ (r : Option ℕ) (n : ℕ) where
+    abbrev Last : F → Option A → Type 0
+    Last p o = MatchOption o (r ≡ None) (λ x. (r ≡ Some n) × ((h : F) × stops p x h))
 
-  pub finds : (all : List Item) (k : ℕ) (s u : S) (f : F) (r : Option ℕ)
-      → (xs : List A) × (o : Option A) × (h : F) × YieldsThen steps s xs o u × FoldsTo passes f xs h × MatchOption o (r ≡ None) (λ x. (r ≡ Some (length xs)) × ((j : F) × ends h x j))
-      → YieldsList steps v s all → Left f k → Finds all q k r
-  finds all k s u f r (xs, o, h, y, c, m) e l = told q all k (length xs) o r (λ x. (j : F) × ends h x j) m (ended (r ≡ None) (r ≡ Some (length xs)) xs all s y.0 u f h k o e.runs y.1 y.2 l c m)
+    here : (all : List Item) (s u : S) (p : F) (k : ℕ) (o : Option A) → AlwaysYields steps v s all → steps s o u → Left p k → Last p o → Ended q all k 0 o
+    here [] s u p k None all step left last = omega arith
+    here [] s u p k (Some x) all step left last = absurd (all x u step)
+    here (z ∷ zs) s u p k None all step left last = absurd (all.0 u step)
+    here (z ∷ zs) s u p k (Some x) all step left last =
+        let at = stopped p k x last.1.0 left last.1.1 in
+        record { within = omega arith; addressee = eqb-true z.to q (ap (is_for q) (sym (all.1 x u step).0) ∙ at.0); earlier = sym at.1 }
+
+    ended : (xs : List A) (all : List Item) (s t u : S) (p h : F) (k : ℕ) (o : Option A) → AlwaysYields steps v s all → Yields steps s xs t → steps t o u
+        → Left p k → FoldsTo passes p xs h → Last h o → Ended q all k (length xs) o
+    ended [] zs s t u p h k o all ran step left calls last = here zs s u h k o all (subst (λ w. steps w o u) (sym ran) step) (subst (λ w. Left w k) calls left) last
+    ended (x ∷ xs) [] s t u p h k o all ran step left calls last = absurd (all x ran.0 ran.1)
+    ended (x ∷ xs) (z ∷ zs) s t u p h k o all ran step left calls last =
+        let next = all.1 x ran.0 ran.1 in
+        let less = passed p k x calls.0 left calls.1 in
+        past q z zs k less.0 (length xs) o (less.2 ∙ ap (λ w. cond (is_for q w) 1 0 + less.0) next.0)
+        (ended xs zs ran.0 t u calls.0 h less.0 o next.1 ran.2 step less.1 calls.2 last)
+
+  pub finds : (all : List Item) (k : ℕ) (s u : S) (p : F) (r : Option ℕ)
+      → (xs : List A) × (o : Option A) × (h : F) × YieldsThen steps s xs o u × FoldsTo passes p xs h × MatchOption o (r ≡ None) (λ x. (r ≡ Some (length xs)) × ((j : F) × stops h x j))
+      → YieldsList steps v s all → Left p k → Finds all q k r
+  finds all k s u p r (xs, o, h, ran, calls, last) e left =
+      answered q all k (length xs) o r (λ x. (j : F) × stops h x j) last (ended r (length xs) xs all s ran.0 u p h k o e.runs ran.1 ran.2 left calls last)
